@@ -1,0 +1,4 @@
+pub mod Complement
+pub mod Reading
+pub mod Tables
+pub mod Unique

@@ -1,0 +1,28 @@
+-- Reading and writing, for any record: the head's table and then the fields', the buffer's and then the fields'.
+use Prim.Native.Nat.{ℕ}
+use mathlib.Core.Path.{_≡_, refl, sym, ap, ap₂, _∙_}
+use mathlib.Core.List.{List, _++_}
+use lib.ListN.{length}
+use Rattle.records.specs.Tables.{Line, firstOf, after}
+use Rattle.records.specs.House.{bufferLines, answered, stored}
+use Rattle.records.specs.declared.refusal.Refusal.{Refusal}
+use Rattle.records.specs.declared.verdict.Verdict.{Verdict}
+use Rattle.records.specs.declared.verdict.Verdict.the-variants.{Fine, Refuse}
+use Rattle.records.proofs.Tables.{joined}
+
+module _ {S R : Type 0} (fields : S → R) (refused : Refusal → R) (lines : S → List Line) (s : S) (head : List Line) where
+  -- where the head refuses
+  pub by-head : {r : Refusal} → firstOf head ≡ Refuse r → refused r ≡ answered fields refused s (firstOf (head ++ lines s))
+  by-head e = sym (ap (answered fields refused s) (joined head (lines s) ∙ ap (λ (v : Verdict). after v (firstOf (lines s))) e))
+
+  -- where the fields that were read have the verdict v
+  pub by-fields : (read : S) (v : Verdict) → firstOf head ≡ Fine → read ≡ s → v ≡ firstOf (lines read) → answered fields refused read v ≡ answered fields refused s (firstOf (head ++ lines s))
+  by-fields read v e same verdict =
+      ap (answered fields refused read) verdict
+      ∙ ap (λ (y : S). answered fields refused y (firstOf (lines y))) same
+      ∙ sym (ap (answered fields refused s) (joined head (lines s) ∙ ap (λ (w : Verdict). after w (firstOf (lines s))) e))
+
+-- what storing a record's bytes answers
+pub by-buffer : (n : ℕ) (image out : List ℕ) (lines : List Line) → length image ≡ n → stored image (firstOf lines) out ≡ firstOf (bufferLines n out ++ lines)
+by-buffer n image out lines e =
+    ap (λ (k : ℕ). after (firstOf (bufferLines k out)) (firstOf lines)) e ∙ sym (joined (bufferLines n out) lines)

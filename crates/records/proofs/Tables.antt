@@ -1,0 +1,61 @@
+-- Laws of tables of refusals.
+use mathlib.Core.Path.{_≡_, refl, sym}
+use Prim.Native.Nat.{ℕ}
+use mathlib.Core.Bool.{Bool, true, false, _||_, _&&_, not}
+use mathlib.Core.Logic.{_⊎_, inl, inr}
+use mathlib.Core.List.{List, [], _∷_, _++_}
+use native.Mathlib.Omega.{arith}
+use Rattle.records.specs.Tables.{Line, when, firstOf, also, after}
+use Rattle.records.specs.declared.refusal.Refusal.{Refusal}
+use Rattle.records.specs.declared.verdict.Verdict.{Verdict}
+use Rattle.records.specs.declared.verdict.Verdict.the-variants.{Fine, Refuse}
+
+-- the lines one after the other, from a verdict on, as `Verdict::also` takes them
+abbrev pub chain : Verdict → List Line → Verdict
+chain v [] = v
+chain v (when bad why ∷ t) = chain (also v bad why) t
+
+kept : (first : Refusal) (t : List Line) → chain (Refuse first) t ≡ Refuse first
+kept first [] = refl
+kept first (when bad why ∷ t) = kept first t
+
+pub chained : (t : List Line) → chain Fine t ≡ firstOf t
+chained [] = refl
+chained (when true r ∷ t) = kept r t
+chained (when false r ∷ t) = chained t
+
+-- two tables, one after the other
+pub joined : (t u : List Line) → firstOf (t ++ u) ≡ after (firstOf t) (firstOf u)
+joined [] u = refl
+joined (when true r ∷ t) u = refl
+joined (when false r ∷ t) u = joined t u
+
+fine-not : {r : Refusal} → Refuse r ≡ Fine → ⊥
+fine-not e = let z : _≡_ {A = ℕ} 0 1 = cc in omega arith
+
+true-not : true ≡ false → ⊥
+true-not e = let z : _≡_ {A = ℕ} 0 1 = cc in omega arith
+
+-- a verdict after another is fine only where both are
+pub both-fine : (v w : Verdict) → after v w ≡ Fine → (v ≡ Fine) × (w ≡ Fine)
+both-fine Fine w e = (refl, e)
+both-fine (Refuse r) w e = absurd (fine-not e)
+
+-- no line of the table matches
+abbrev pub NoneOf : List Line → Type 0
+NoneOf [] = Unit {0}
+NoneOf (when bad why ∷ t) = (bad ≡ false) × NoneOf t
+
+pub none : (t : List Line) → firstOf t ≡ Fine → NoneOf t
+none [] e = tt
+none (when true r ∷ t) e = absurd (fine-not e)
+none (when false r ∷ t) e = (refl, none t e)
+
+pub or-false : (a b : Bool) → (a || b) ≡ false → (a ≡ false) × (b ≡ false)
+or-false true b e = absurd (true-not e)
+or-false false b e = (refl, e)
+
+-- a test for each of two cases
+pub either : (p a b : Bool) → ((p && a) || (not p && b)) ≡ false → (a ≡ false) ⊎ (b ≡ false)
+either true a b e = inl (or-false a false e .0)
+either false a b e = inr e

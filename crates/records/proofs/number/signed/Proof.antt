@@ -1,0 +1,41 @@
+use Prim.Native.Nat.{suc}
+use Prim.Native.Nat.{_-_, _<_, _≤_}
+use native.Mathlib.Omega.{arith}
+use mathlib.Core.Path.{_≡_, ap, _∙_}
+use lib.IntN.{ℤ, pos, negsuc, _-ℤ_}
+use mir.Val.{toZ, ofZ, SFits}
+use mir.ValLaws.{toZ-ofZ, toZ-pos, toZ-neg}
+use mir.Syntax.{w16}
+use Rattle.records.proofs.Complement.{below-zero, flipped, flipped-bits, plain, plain-bits}
+use borrow.Author.Needs.{needs}
+use Rattle.records.proofs.number.signed.Statement.{statement}
+use Rattle.records.proofs.number.signed.Tie as tie
+use Rattle.records.proofs.number.signed.Reads as reads
+use Rattle.records.proofs.number.signed.Lts as lts
+
+cast-result : tie.Need-cast-result
+cast-result c = search needs
+
+sub-result : tie.Need-sub-result
+sub-result c = search needs
+
+cast-result-2 : tie.Need-cast-result-2
+cast-result-2 c = search needs
+
+sub-result-2 : tie.Need-sub-result-2
+sub-result-2 c =
+    let v = c .before .args .x in
+    rw (toZ-pos w16 (65535 - v) (omega arith), below-zero (65535 - v)) (record { sfits = omega arith })
+
+returns : tie.Need-returns
+returns c = search needs
+
+returns-2 : tie.Need-returns-2
+returns-2 c =
+    let v = c .before .args .x in
+    let e : 65536 - suc (65535 - v) ≡ v = omega arith in
+    rw (toZ-pos w16 (65535 - v) (omega arith), below-zero (65535 - v)) (ap (toZ w16) e)
+
+pub signed-spec : {M : Type 1} → statement M
+signed-spec =
+    tie.close (tie.spec cast-result sub-result cast-result-2 sub-result-2 returns returns-2)

@@ -1,0 +1,23 @@
+use borrow.Author.Needs.{needs}
+use Rattle.records.proofs.verdict.Verdict.also.Statement.{statement}
+use Rattle.records.proofs.verdict.Verdict.also.Tie as tie
+use Rattle.records.proofs.verdict.Verdict.also.Reads as reads
+use Rattle.records.proofs.verdict.Verdict.also.Lts as lts
+
+enum-known-self : tie.Need-enum-known-self
+enum-known-self c = search needs
+
+enum-told : tie.Need-enum-told
+enum-told c = search needs
+
+returns : tie.Need-returns
+returns c = rw (c .before .self .given .1)
+
+returns-2 : tie.Need-returns-2
+returns-2 c = rw (c .before .enum-told .given .1, c .if1 .taken)
+
+returns-3 : tie.Need-returns-3
+returns-3 c = rw (c .before .enum-told .given .1, c .if1 .left)
+
+pub also-spec : {M : Type 1} → statement M
+also-spec = tie.close (tie.spec enum-known-self enum-told returns returns-2 returns-3)

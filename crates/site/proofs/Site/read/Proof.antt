@@ -1,0 +1,76 @@
+use mathlib.Core.Path.{_≡_, sym, _∙_}
+use denote.Ref.{now}
+use Rattle.records.specs.House.{headLines, answered}
+use Rattle.records.specs.declared.verdict.Verdict.{Verdict}
+use Rattle.records.proofs.Reading.{by-head, by-fields}
+use Rattle.site.specs.Rules.{siteLines}
+use Rattle.site.specs.Record.{siteOf, readSite}
+use Rattle.site.specs.declared.SiteRead.the-variants.{Fields, Refused}
+use borrow.Author.Needs.{needs}
+use Rattle.site.proofs.Site.read.Statement.{statement}
+use Rattle.site.proofs.Site.read.Tie as tie
+use Rattle.site.proofs.Site.read.Reads as reads
+use Rattle.site.proofs.Site.read.Lts as lts
+use Rattle.records.proofs.head.Reads as head-reads
+use Rattle.site.proofs.Site.verdict.Reads as verdict-reads
+use Rattle.site.proofs.read.site_in.Reads as site-in-reads
+
+-- the head's verdict decides, and then the fields'
+came : (v : tie.After-verdict) {w : Verdict} → v .verdict .result ≡ w → answered Fields Refused (v .before .site-in .result) w ≡ readSite (now (v .before .before .before .before .before .before .args .bytes))
+unfolding readSite
+came v {w} e =
+    let t = v .before .before in
+    let b = now (t .before .before .before .before .args .bytes) in
+    by-fields Fields Refused siteLines (siteOf b) (headLines 30 1 b) (v .before .site-in .result) w
+    (sym (t .before .before .head .ensures) ∙ t .enum-told .given .1)
+    (v .before .site-in .ensures)
+    (sym e ∙ v .verdict .ensures)
+
+head-requires : tie.Need-head-requires
+head-requires c κs = search needs
+
+enum-known-r : tie.Need-enum-known-r
+enum-known-r c = search needs
+
+enum-told : tie.Need-enum-told
+enum-told c = search needs
+
+site-in-requires : tie.Need-site-in-requires
+site-in-requires c κs = search needs
+
+verdict-requires : tie.Need-verdict-requires
+verdict-requires c κs = search needs
+
+enum-told-2 : tie.Need-enum-told-2
+enum-told-2 c = search needs
+
+enum-known-r-2 : tie.Need-enum-known-r-2
+enum-known-r-2 c = search needs
+
+returns : tie.Need-returns
+unfolding readSite
+returns c =
+    let h = c .before .before .before in
+    let b = now (h .before .before .args .bytes) in
+    by-head Fields Refused siteLines (siteOf b) (headLines 30 1 b) (sym (h .head .ensures) ∙ c .before .r .given .1)
+
+returns-2 : tie.Need-returns-2
+returns-2 c = came (c .before .before) (c .enum-told2 .given .1)
+
+returns-3 : tie.Need-returns-3
+returns-3 c = came (c .before .before .before) (c .before .r2 .given .1)
+
+pub read-spec : {M : Type 1} → statement M
+read-spec =
+    tie.close
+    (tie.spec
+    head-requires
+    enum-known-r
+    enum-told
+    site-in-requires
+    verdict-requires
+    enum-told-2
+    enum-known-r-2
+    returns
+    returns-2
+    returns-3)

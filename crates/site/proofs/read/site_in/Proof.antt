@@ -1,0 +1,87 @@
+use mir.ValLaws.{toZ-ofZ}
+use mir.Syntax.{w16}
+use borrow.Author.Needs.{needs, sfits-of}
+use Rattle.site.proofs.read.site_in.Statement.{statement}
+use Rattle.site.proofs.read.site_in.Tie as tie
+use Rattle.site.proofs.read.site_in.Reads as reads
+use Rattle.site.proofs.read.site_in.Lts as lts
+use Rattle.records.proofs.byte_at.Reads as byte-at-reads
+use Rattle.records.proofs.signed.Reads as signed-reads
+use Rattle.records.proofs.u16_at.Reads as u16-at-reads
+use Rattle.records.proofs.u32_at.Reads as u32-at-reads
+
+u16-at-requires : tie.Need-u16-at-requires
+u16-at-requires c κs = search needs
+
+signed-requires : tie.Need-signed-requires
+signed-requires c κs = search needs
+
+u16-at-requires-2 : tie.Need-u16-at-requires-2
+u16-at-requires-2 c κs = search needs
+
+signed-requires-2 : tie.Need-signed-requires-2
+signed-requires-2 c κs = search needs
+
+u32-at-requires : tie.Need-u32-at-requires
+u32-at-requires c κs = search needs
+
+u32-at-requires-2 : tie.Need-u32-at-requires-2
+u32-at-requires-2 c κs = search needs
+
+byte-at-requires : tie.Need-byte-at-requires
+byte-at-requires c κs = search needs
+
+u16-at-requires-3 : tie.Need-u16-at-requires-3
+u16-at-requires-3 c κs = search needs
+
+u16-at-requires-4 : tie.Need-u16-at-requires-4
+u16-at-requires-4 c κs = search needs
+
+u32-at-requires-3 : tie.Need-u32-at-requires-3
+u32-at-requires-3 c κs = search needs
+
+u32-at-requires-4 : tie.Need-u32-at-requires-4
+u32-at-requires-4 c κs = search needs
+
+u16-at-requires-5 : tie.Need-u16-at-requires-5
+u16-at-requires-5 c κs = search needs
+
+returns : tie.Need-returns
+returns c =
+    let p = c .before .before .before .before .before .before .before in
+    let q = p .before in
+    let t = q .before .before in
+    rw (
+      c .u16-at5 .ensures,
+      c .before .u32-at4 .ensures,
+      c .before .before .u32-at3 .ensures,
+      c .before .before .before .u16-at4 .ensures,
+      c .before .before .before .before .u16-at3 .ensures,
+      c .before .before .before .before .before .byte-at .ensures,
+      c .before .before .before .before .before .before .u32-at2 .ensures,
+      p .u32-at .ensures,
+      toZ-ofZ w16 (q .signed2 .result) (sfits-of (q .signed2 .ok)),
+      q .signed2 .ensures,
+      q .before .u16-at2 .ensures,
+      toZ-ofZ w16 (t .signed .result) (sfits-of (t .signed .ok)),
+      t .signed .ensures,
+      t .before .u16-at .ensures,
+    )
+
+pub site-in-spec : {M : Type 1} → statement M
+site-in-spec =
+    tie.close
+    (tie.spec
+    u16-at-requires
+    signed-requires
+    u16-at-requires-2
+    signed-requires-2
+    u32-at-requires
+    u32-at-requires-2
+    byte-at-requires
+    u16-at-requires-3
+    u16-at-requires-4
+    u32-at-requires-3
+    u32-at-requires-4
+    u16-at-requires-5
+    returns)

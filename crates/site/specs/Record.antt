@@ -1,0 +1,56 @@
+-- Document 01, "Records": the site record, 30 bytes.
+use Prim.Native.Nat.{ℕ}
+use mathlib.Core.List.{List, [], _∷_, _++_}
+use Rattle.exact.specs.Bytes.{signed, unsigned}
+use Rattle.exact.specs.Layout.{Layout, bytes, laid, Maker, readBy}
+use Rattle.records.specs.Tables.{firstOf}
+use Rattle.records.specs.House.{houseForm, headLines, bufferLines, answered}
+use Rattle.records.specs.declared.verdict.Verdict.{Verdict}
+use Rattle.site.specs.Rules.{siteLines}
+use Rattle.site.specs.declared.Site.{Site}
+use Rattle.site.specs.declared.SiteRead.{SiteRead}
+use Rattle.site.specs.declared.SiteRead.the-variants.{Fields, Refused}
+
+-- the document's table, bytes and field
+abbrev pub siteLayout : Layout Site
+siteLayout =
+    bytes 3 3 (λ s. s .method)
+    ∷ bytes 4 5 (λ s. s .year)
+    ∷ bytes 6 7 (λ s. s .gwp)
+    ∷ bytes 8 11 (λ s. s .height)
+    ∷ bytes 12 15 (λ s. s .diameter)
+    ∷ bytes 16 17 (λ s. unsigned (s .temperature .lowest))
+    ∷ bytes 18 19 (λ s. unsigned (s .temperature .highest))
+    ∷ bytes 20 23 (λ s. s .flow .lowest)
+    ∷ bytes 24 27 (λ s. s .flow .highest)
+    ∷ bytes 28 29 (λ s. s .days)
+    ∷ []
+
+-- the site whose numbers these are, in the table's order
+abbrev pub site : Maker siteLayout Site
+site method year gwp height diameter coldest hottest least most days = record {
+  method = method;
+  year = year;
+  gwp = gwp;
+  height = height;
+  diameter = diameter;
+  temperature = record { lowest = signed coldest; highest = signed hottest };
+  flow = record { lowest = least; highest = most };
+  days = days;
+}
+
+-- the fields of a record's bytes
+abbrev pub siteOf : List ℕ → Site
+siteOf b = readBy siteLayout site b
+
+-- the bytes of a record's fields
+unfoldable pub siteBytes : Site → List ℕ
+siteBytes s = houseForm 30 1 (laid siteLayout s)
+
+-- "Site: 1 to 9"
+unfoldable pub readSite : List ℕ → SiteRead
+readSite b = answered Fields Refused (siteOf b) (firstOf (headLines 30 1 b ++ siteLines (siteOf b)))
+
+-- "Writing takes fields and a 30- .. byte buffer: 22, then the same field refusals (for a site 3 to 9 ..)"
+unfoldable pub writeSite : Site → List ℕ → Verdict
+writeSite s out = firstOf (bufferLines 30 out ++ siteLines s)

@@ -1,0 +1,59 @@
+-- Document 01, "Records" and "Numbers a caller gets back": the ranges of a site's fields, and its refusals 3 to 9 in their order.
+use Prim.Native.Nat.{ℕ, _*_}
+use mathlib.Core.Bool.{Bool, _||_, _&&_}
+use mathlib.Core.List.{List, [], _∷_}
+use lib.Dec.{ltb, leb, eqb}
+use lib.IntN.{pos}
+use lib.Signed.{ltZ}
+use Rattle.exact.specs.Ranges.{above, outside, outsideZ, minus}
+use Rattle.records.specs.Tables.{Line, when}
+use Rattle.records.specs.declared.refusal.Refusal.the-variants.{Method, Year, Gwp, Size, Spec, Open, Schedule}
+use Rattle.site.specs.declared.Temperatures.{Temperatures}
+use Rattle.site.specs.declared.Flows.{Flows}
+use Rattle.site.specs.declared.Site.{Site}
+
+-- "method: 0 default, 1 measured each minute"
+abbrev pub isMeasured : Site → Bool
+isMeasured s = eqb (s .method) 1
+
+abbrev pub methodWrong : Site → Bool
+methodWrong s = above 1 (s .method)
+
+abbrev pub yearWrong : Site → Bool
+yearWrong s = outside 2000 2099 (s .year)
+
+abbrev pub gwpWrong : Site → Bool
+gwpWrong s = outside 1 100 (s .gwp)
+
+-- "height or diameter"
+abbrev pub sizeWrong : Site → Bool
+sizeWrong s = above 100000 (s .height) || outside 1 100000 (s .diameter)
+
+-- "a temperature .. limit outside its range or reversed"
+abbrev pub temperaturesWrong : Temperatures → Bool
+temperaturesWrong t =
+    outsideZ (minus 500) (pos 15000) (t .lowest) || outsideZ (minus 500) (pos 15000) (t .highest) || ltZ (t .highest) (t .lowest)
+
+-- ".. or flow limit outside its range or reversed"
+abbrev pub flowsWrong : Flows → Bool
+flowsWrong f = above 100000 (f .lowest) || above 100000 (f .highest) || ltb (f .highest) (f .lowest)
+
+-- "Height at most twice the diameter: open"
+abbrev pub isOpen : Site → Bool
+isOpen s = leb (s .height) (2 * s .diameter)
+
+-- "1..3,660 measured, 0..3,660 default"
+abbrev pub scheduleWrong : Site → Bool
+scheduleWrong s = above 3660 (s .days) || (isMeasured s && ltb (s .days) 1)
+
+-- "Opening an account takes a site's fields: 3 to 9"
+unfoldable pub siteLines : Site → List Line
+siteLines s =
+    when (methodWrong s) Method
+    ∷ when (yearWrong s) Year
+    ∷ when (gwpWrong s) Gwp
+    ∷ when (sizeWrong s) Size
+    ∷ when (temperaturesWrong (s .temperature) || flowsWrong (s .flow)) Spec
+    ∷ when (isMeasured s && isOpen s) Open
+    ∷ when (scheduleWrong s) Schedule
+    ∷ []

@@ -1,0 +1,158 @@
+// The site record.
+mod read;
+mod write;
+
+ghost use mathlib.Core.Path.{_≡_};
+ghost use Rattle.records.specs.Tables.{firstOf};
+ghost use Rattle.site.specs.Rules.{methodWrong, yearWrong, gwpWrong, sizeWrong, temperaturesWrong, flowsWrong, isMeasured, isOpen, scheduleWrong, siteLines};
+use records::Refusal;
+use records::Verdict;
+
+// Tenths of a degree Celsius.
+pub struct Temperatures {
+    pub lowest: i16,
+    pub highest: i16,
+}
+
+// Litres a minute.
+pub struct Flows {
+    pub lowest: u32,
+    pub highest: u32,
+}
+
+// Height and diameter are in mm; days is how many are allowed between maintenance.
+pub struct Site {
+    pub method: u8,
+    pub year: u16,
+    pub gwp: u16,
+    pub height: u32,
+    pub diameter: u32,
+    pub temperature: Temperatures,
+    pub flow: Flows,
+    pub days: u16,
+}
+
+pub enum SiteRead {
+    Fields(Site),
+    Refused(Refusal),
+}
+
+impl Site {
+    pub const BYTES: usize = 30;
+
+    pub const VERSION: u8 = 1;
+
+    pub const DEFAULT: u8 = 0;
+
+    pub const MEASURED: u8 = 1;
+
+    pub const FIRST_YEAR: u16 = 2000;
+
+    pub const LAST_YEAR: u16 = 2099;
+
+    pub const LEAST_GWP: u16 = 1;
+
+    pub const MOST_GWP: u16 = 100;
+
+    pub const MOST_HEIGHT: u32 = 100_000;
+
+    pub const LEAST_DIAMETER: u32 = 1;
+
+    pub const MOST_DIAMETER: u32 = 100_000;
+
+    pub const COLDEST: i16 = -500;
+
+    pub const HOTTEST: i16 = 15_000;
+
+    pub const MOST_FLOW: u32 = 100_000;
+
+    pub const LEAST_DAYS_MEASURED: u16 = 1;
+
+    pub const MOST_DAYS: u16 = 3_660;
+
+    // An enclosure of at most so many diameters is open.
+    pub const OPEN_DIAMETERS: u64 = 2;
+
+    fn measured(self) -> bool
+        ensures { λ r. ⌜ r ≡ isMeasured self ⌝ }
+    {
+        self.method == Site::MEASURED
+    }
+
+    fn method_wrong(self) -> bool
+        ensures { λ r. ⌜ r ≡ methodWrong self ⌝ }
+    {
+        Site::MEASURED < self.method
+    }
+
+    fn year_wrong(self) -> bool
+        ensures { λ r. ⌜ r ≡ yearWrong self ⌝ }
+    {
+        (self.year < Site::FIRST_YEAR) | (Site::LAST_YEAR < self.year)
+    }
+
+    fn gwp_wrong(self) -> bool
+        ensures { λ r. ⌜ r ≡ gwpWrong self ⌝ }
+    {
+        (self.gwp < Site::LEAST_GWP) | (Site::MOST_GWP < self.gwp)
+    }
+
+    fn size_wrong(self) -> bool
+        ensures { λ r. ⌜ r ≡ sizeWrong self ⌝ }
+    {
+        (Site::MOST_HEIGHT < self.height)
+            | ((self.diameter < Site::LEAST_DIAMETER) | (Site::MOST_DIAMETER < self.diameter))
+    }
+
+    // Whether the flare is open.
+    fn open(self) -> bool
+        ensures { λ r. ⌜ r ≡ isOpen self ⌝ }
+    {
+        let height = self.height as u64;
+        let diameter = self.diameter as u64;
+        height <= Site::OPEN_DIAMETERS * diameter
+    }
+
+    fn schedule_wrong(self) -> bool
+        ensures { λ r. ⌜ r ≡ scheduleWrong self ⌝ }
+    {
+        (Site::MOST_DAYS < self.days)
+            | ((self.method == Site::MEASURED) & (self.days < Site::LEAST_DAYS_MEASURED))
+    }
+
+    // The first of the refusals 3 to 9 of the fields.
+    fn verdict(self) -> Verdict
+        ensures { λ r. ⌜ r ≡ firstOf (siteLines self) ⌝ }
+    {
+        let temperature = self.temperature;
+        let flow = self.flow;
+        Verdict::Fine
+            .also(self.method_wrong(), Refusal::Method)
+            .also(self.year_wrong(), Refusal::Year)
+            .also(self.gwp_wrong(), Refusal::Gwp)
+            .also(self.size_wrong(), Refusal::Size)
+            .also(temperature.wrong() | flow.wrong(), Refusal::Spec)
+            .also(self.measured() & self.open(), Refusal::Open)
+            .also(self.schedule_wrong(), Refusal::Schedule)
+    }
+}
+
+impl Temperatures {
+    fn wrong(self) -> bool
+        ensures { λ r. ⌜ r ≡ temperaturesWrong self ⌝ }
+    {
+        ((self.lowest < Site::COLDEST) | (Site::HOTTEST < self.lowest))
+            | ((self.highest < Site::COLDEST) | (Site::HOTTEST < self.highest))
+            | (self.highest < self.lowest)
+    }
+}
+
+impl Flows {
+    fn wrong(self) -> bool
+        ensures { λ r. ⌜ r ≡ flowsWrong self ⌝ }
+    {
+        (Site::MOST_FLOW < self.lowest)
+            | (Site::MOST_FLOW < self.highest)
+            | (self.highest < self.lowest)
+    }
+}
