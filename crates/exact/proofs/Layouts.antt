@@ -1,7 +1,7 @@
 -- A layout without a gap, both ways: what is laid out is read, and what is read is laid out.
 use Prim.Native.Nat.{ℕ, zero, suc, _+_, _-_, _≤_}
 use mathlib.Core.Path.{_≡_, refl, sym, ap, ap₂, _∙_}
-use mathlib.Core.Bool.{Bool, true, false, _&&_}
+use mathlib.Core.Bool.{true, _&&_}
 use mathlib.Core.List.{List, [], _∷_, _++_, append-assoc}
 use native.Mathlib.Omega.{arith}
 use borrow.Author.Tests.{eqb-true, leb-true}
@@ -10,14 +10,8 @@ use lib.ListN.{length, drop, length-append}
 use lib.Seq.{drop-length}
 use Rattle.exact.specs.Bytes.{AreBytes, cells, spelled, numberAt, bytesOf}
 use Rattle.exact.specs.Layout.{Field, bytes, Layout, width, laid, Maker, readBy, gapless}
+use Rattle.exact.proofs.Bools.{and-true}
 use Rattle.exact.proofs.Spelling.{bytesOf-length, spelled-bytesOf, bytesOf-numberAt, cells-drop, cells-between}
-
-true-not : true ≡ false → ⊥
-true-not e = let z : _≡_ {A = ℕ} 0 1 = cc in omega arith
-
-and-true : (a b : Bool) → (a && b) ≡ true → (a ≡ true) × (b ≡ true)
-and-true true b e = (refl, e)
-and-true false b e = absurd (true-not (sym e))
 
 -- the number of a field that is laid out behind front
 number-laid : (front rest : List ℕ) (i j x : ℕ) → i ≡ length front → i ≤ j
@@ -44,9 +38,17 @@ module _ {S : Type 0} where
       let here = and-true (eqb i k) (leb i j) (both .0) in
       record { start = eqb-true i k (here .0); order = leb-true i j (here .1); rest = both .1 }
 
-  within : (k : ℕ) (l : Layout S) (n : ℕ) → gapless k l n ≡ true → k ≤ n
+  pub within : (k : ℕ) (l : Layout S) (n : ℕ) → gapless k l n ≡ true → k ≤ n
   within k [] n e = omega (arith, eqb-true k n e)
   within k (bytes i j f ∷ l) n e = let p = first k i j f l n e in omega (arith, within (suc j) l n (p .rest))
+
+  pub laid-length : (k : ℕ) (l : Layout S) (n : ℕ) (s : S) → gapless k l n ≡ true → k + length (laid l s) ≡ n
+  laid-length k [] n s e = omega (arith, eqb-true k n e)
+  laid-length k (bytes i j f ∷ l) n s e =
+      let p = first k i j f l n e in
+      let xs = bytesOf (width i j) (f s) in
+      ap (λ (m : ℕ). k + m) (length-append xs (laid l s))
+      ∙ omega (arith, bytesOf-length (width i j) (f s), laid-length (suc j) l n s (p .rest), p .start, p .order)
 
   -- what a maker makes of a record's own numbers
   abbrev pub made : {R : Type 0} (l : Layout S) → Maker l R → S → R

@@ -1,2 +1,4 @@
+pub mod Bools
 pub mod Layouts
+pub mod Ranges
 pub mod Spelling

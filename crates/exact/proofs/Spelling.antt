@@ -7,7 +7,9 @@ use native.Mathlib.Nat.{add-zero}
 use native.Mathlib.Numerals.{add-one}
 use lib.ListN.{length, getD, drop, length-append}
 use lib.Seq.{drop-cons, append-snoc, getD-append-seam}
-use Rattle.exact.specs.Bytes.{AreBytes, byteAt, cells, after, spelled, numberAt, bytesOf}
+use mir.ValLaws.{ofZ-toZ}
+use mir.Syntax.{w16}
+use Rattle.exact.specs.Bytes.{AreBytes, byteAt, cells, after, spelled, numberAt, bytesOf, signed, unsigned}
 
 after-last : (a : ℕ) (xs : List ℕ) (y : ℕ) → after a (xs ++ (y ∷ [])) ≡ after a xs * 256 + y
 after-last a [] y = refl
@@ -69,3 +71,7 @@ cells-between (x ∷ xs) front rest =
     _∷_
     (getD-append-seam front x (xs ++ rest) 0)
     (sym (λ i. cells (length xs) (shift i) (next i)) ∙ cells-between xs (front ++ (x ∷ [])) rest)
+
+-- two bytes as a signed number, and as its two bytes again
+pub unsigned-signed : (b : List ℕ) → AreBytes b → (k : ℕ) → unsigned (signed (numberAt 2 b k)) ≡ numberAt 2 b k
+unsigned-signed b h k = ofZ-toZ w16 (numberAt 2 b k) (record { fits = omega (arith, h k, h (k + 1)) })

@@ -1,8 +1,7 @@
 -- Laws of tables of refusals.
 use mathlib.Core.Path.{_≡_, refl, sym}
 use Prim.Native.Nat.{ℕ}
-use mathlib.Core.Bool.{Bool, true, false, _||_, _&&_, not}
-use mathlib.Core.Logic.{_⊎_, inl, inr}
+use mathlib.Core.Bool.{true, false}
 use mathlib.Core.List.{List, [], _∷_, _++_}
 use native.Mathlib.Omega.{arith}
 use Rattle.records.specs.Tables.{Line, when, firstOf, also, after}
@@ -33,9 +32,6 @@ joined (when false r ∷ t) u = joined t u
 fine-not : {r : Refusal} → Refuse r ≡ Fine → ⊥
 fine-not e = let z : _≡_ {A = ℕ} 0 1 = cc in omega arith
 
-true-not : true ≡ false → ⊥
-true-not e = let z : _≡_ {A = ℕ} 0 1 = cc in omega arith
-
 -- a verdict after another is fine only where both are
 pub both-fine : (v w : Verdict) → after v w ≡ Fine → (v ≡ Fine) × (w ≡ Fine)
 both-fine Fine w e = (refl, e)
@@ -50,12 +46,3 @@ pub none : (t : List Line) → firstOf t ≡ Fine → NoneOf t
 none [] e = tt
 none (when true r ∷ t) e = absurd (fine-not e)
 none (when false r ∷ t) e = (refl, none t e)
-
-pub or-false : (a b : Bool) → (a || b) ≡ false → (a ≡ false) × (b ≡ false)
-or-false true b e = absurd (true-not e)
-or-false false b e = (refl, e)
-
--- a test for each of two cases
-pub either : (p a b : Bool) → ((p && a) || (not p && b)) ≡ false → (a ≡ false) ⊎ (b ≡ false)
-either true a b e = inl (or-false a false e .0)
-either false a b e = inr e

@@ -1,3 +1,4 @@
 pub mod House
 pub mod Refusals
+pub mod RoundTrip
 pub mod Tables

@@ -1,0 +1,17 @@
+-- The site record as a kind of record, for both round trips.
+use Rattle.records.specs.RoundTrip.{Kind}
+use Rattle.site.specs.Record.{siteBytes, readSite, writeSite}
+use Rattle.site.specs.declared.Site.{Site}
+use Rattle.site.specs.declared.SiteRead.{SiteRead}
+use Rattle.site.specs.declared.SiteRead.the-variants.{Fields as Accepted}
+
+abbrev pub siteKind : Kind
+siteKind = record {
+  Fields = Site;
+  Answer = SiteRead;
+  size = 30;
+  accepted = Accepted;
+  image = siteBytes;
+  write = writeSite;
+  read = readSite;
+}
