@@ -1,0 +1,76 @@
+use mathlib.Core.Path.{_≡_, sym, _∙_}
+use denote.Ref.{now}
+use Rattle.records.specs.House.{headLines, answered}
+use Rattle.records.specs.declared.verdict.Verdict.{Verdict}
+use Rattle.records.proofs.Reading.{by-head, by-fields}
+use Rattle.minute.specs.Rules.{aloneLines}
+use Rattle.minute.specs.Record.{minuteOf, readMinute}
+use Rattle.minute.specs.declared.MinuteRead.the-variants.{Fields, Refused}
+use borrow.Author.Needs.{needs}
+use Rattle.minute.proofs.Minute.read.Statement.{statement}
+use Rattle.minute.proofs.Minute.read.Tie as tie
+use Rattle.minute.proofs.Minute.read.Reads as reads
+use Rattle.minute.proofs.Minute.read.Lts as lts
+use Rattle.records.proofs.head.Reads as head-reads
+use Rattle.minute.proofs.Minute.alone.Reads as alone-reads
+use Rattle.minute.proofs.read.minute_in.Reads as minute-in-reads
+
+-- the head's verdict decides, and then the fields'
+came : (v : tie.After-alone) {w : Verdict} → v .alone .result ≡ w → answered Fields Refused (v .before .minute-in .result) w ≡ readMinute (now (v .before .before .before .before .before .before .args .bytes))
+unfolding readMinute
+came v {w} e =
+    let t = v .before .before in
+    let b = now (t .before .before .before .before .args .bytes) in
+    by-fields Fields Refused aloneLines (minuteOf b) (headLines 54 1 b) (v .before .minute-in .result) w
+    (sym (t .before .before .head .ensures) ∙ t .enum-told .given .1)
+    (v .before .minute-in .ensures)
+    (sym e ∙ v .alone .ensures)
+
+head-requires : tie.Need-head-requires
+head-requires c κs = search needs
+
+enum-known-r : tie.Need-enum-known-r
+enum-known-r c = search needs
+
+enum-told : tie.Need-enum-told
+enum-told c = search needs
+
+minute-in-requires : tie.Need-minute-in-requires
+minute-in-requires c κs = search needs
+
+alone-requires : tie.Need-alone-requires
+alone-requires c κs = search needs
+
+enum-told-2 : tie.Need-enum-told-2
+enum-told-2 c = search needs
+
+enum-known-r-2 : tie.Need-enum-known-r-2
+enum-known-r-2 c = search needs
+
+returns : tie.Need-returns
+unfolding readMinute
+returns c =
+    let h = c .before .before .before in
+    let b = now (h .before .before .args .bytes) in
+    by-head Fields Refused aloneLines (minuteOf b) (headLines 54 1 b) (sym (h .head .ensures) ∙ c .before .r .given .1)
+
+returns-2 : tie.Need-returns-2
+returns-2 c = came (c .before .before) (c .enum-told2 .given .1)
+
+returns-3 : tie.Need-returns-3
+returns-3 c = came (c .before .before .before) (c .before .r2 .given .1)
+
+pub read-spec : {M : Type 1} → statement M
+read-spec =
+    tie.close
+    (tie.spec
+    head-requires
+    enum-known-r
+    enum-told
+    minute-in-requires
+    alone-requires
+    enum-told-2
+    enum-known-r-2
+    returns
+    returns-2
+    returns-3)

@@ -1,0 +1,15 @@
+-- Each call's contract leaves one result, and one state of a lent buffer.
+use mathlib.Core.Path.{_≡_, ap, sym, _∙_}
+use denote.Ref.{now}
+use Rattle.exact.specs.One.{OneResult, OneOutcome}
+use Rattle.records.specs.House.{written}
+use Rattle.minute.proofs.Minute.read.Reads as read
+use Rattle.minute.proofs.Minute.write.Reads as write
+
+pub read-one : (κs : _) (a : _) → OneResult (read.Learnt κs a)
+read-one κs a x y e f p q = p ∙ sym q
+
+pub write-one : (κs : _) (a : _) → OneOutcome (λ e. now (e .1 .0)) (write.Learnt κs a)
+write-one κs a x y e f p q =
+    let same = p .0 ∙ sym (q .0) in
+    (same, p .1 ∙ ap (written _ _) same ∙ sym (q .1))

@@ -1,0 +1,58 @@
+-- Document 01, "Records": the minute record, 54 bytes.
+use Prim.Native.Nat.{ℕ}
+use mathlib.Core.List.{List, [], _∷_, _++_}
+use Rattle.exact.specs.Bytes.{signed, unsigned}
+use Rattle.exact.specs.Layout.{Layout, bytes, laid, Maker, readBy}
+use Rattle.records.specs.Tables.{firstOf}
+use Rattle.records.specs.House.{houseForm, headLines, bufferLines, answered}
+use Rattle.records.specs.declared.verdict.Verdict.{Verdict}
+use Rattle.minute.specs.Rules.{aloneLines}
+use Rattle.minute.specs.declared.Minute.{Minute}
+use Rattle.minute.specs.declared.MinuteRead.{MinuteRead}
+use Rattle.minute.specs.declared.MinuteRead.the-variants.{Fields, Refused}
+
+-- the document's bytes and fields, "in the order CH4, CO, CO2, O2, H2, H2S, NH3, N2"
+abbrev pub minuteLayout : Layout Minute
+minuteLayout =
+    bytes 3 6 (λ m. m .number)
+    ∷ bytes 7 7 (λ m. m .flags)
+    ∷ bytes 8 9 (λ m. unsigned (m .temperature))
+    ∷ bytes 10 13 (λ m. m .litres)
+    ∷ bytes 14 17 (λ m. m .gas .ch4)
+    ∷ bytes 18 21 (λ m. m .gas .co)
+    ∷ bytes 22 25 (λ m. m .gas .co2)
+    ∷ bytes 26 29 (λ m. m .gas .o2)
+    ∷ bytes 30 33 (λ m. m .gas .h2)
+    ∷ bytes 34 37 (λ m. m .gas .h2s)
+    ∷ bytes 38 41 (λ m. m .gas .nh3)
+    ∷ bytes 42 45 (λ m. m .gas .n2)
+    ∷ bytes 46 49 (λ m. m .exhaust .oxygen)
+    ∷ bytes 50 53 (λ m. m .exhaust .methane)
+    ∷ []
+
+-- the minute whose numbers these are, in the layout's order
+abbrev pub minute : Maker minuteLayout Minute
+minute number flags temperature litres ch4 co co2 o2 h2 h2s nh3 n2 oxygen methane = record {
+  number = number;
+  flags = flags;
+  temperature = signed temperature;
+  litres = litres;
+  gas = record { ch4 = ch4; co = co; co2 = co2; o2 = o2; h2 = h2; h2s = h2s; nh3 = nh3; n2 = n2 };
+  exhaust = record { oxygen = oxygen; methane = methane };
+}
+
+-- the fields of a record's bytes
+abbrev pub minuteOf : List ℕ → Minute
+minuteOf b = readBy minuteLayout minute b
+
+-- the bytes of a record's fields
+unfoldable pub minuteBytes : Minute → List ℕ
+minuteBytes m = houseForm 54 1 (laid minuteLayout m)
+
+-- "Reading a minute alone, without a site, gives 1, 2, 12, 13 in that sense, 14 to 18"
+unfoldable pub readMinute : List ℕ → MinuteRead
+readMinute b = answered Fields Refused (minuteOf b) (firstOf (headLines 54 1 b ++ aloneLines (minuteOf b)))
+
+-- "Writing takes fields and a .. 54-byte buffer: 22, then the same field refusals"
+unfoldable pub writeMinute : Minute → List ℕ → Verdict
+writeMinute m out = firstOf (bufferLines 54 out ++ aloneLines m)

@@ -1,0 +1,57 @@
+// The gas in a minute's record: eight fractions in ppm by volume.
+ghost use mathlib.Core.Path.{_≡_};
+ghost use Rattle.minute.specs.Rules.{total, compositionWrong, methaneWrong};
+
+pub struct Gas {
+    pub ch4: u32,
+    pub co: u32,
+    pub co2: u32,
+    pub o2: u32,
+    pub h2: u32,
+    pub h2s: u32,
+    pub nh3: u32,
+    pub n2: u32,
+}
+
+impl Gas {
+    // All of the gas, in ppm.
+    pub const WHOLE: u32 = 1_000_000;
+
+    fn total(self) -> u64
+        ensures { λ r. ⌜ r ≡ total self ⌝ }
+    {
+        self.ch4 as u64
+            + self.co as u64
+            + self.co2 as u64
+            + self.o2 as u64
+            + self.h2 as u64
+            + self.h2s as u64
+            + self.nh3 as u64
+            + self.n2 as u64
+    }
+
+    pub fn composition_wrong(self) -> bool
+        ensures { λ r. ⌜ r ≡ compositionWrong self ⌝ }
+    {
+        let over = (Gas::WHOLE < self.ch4)
+            | (Gas::WHOLE < self.co)
+            | (Gas::WHOLE < self.co2)
+            | (Gas::WHOLE < self.o2)
+            | (Gas::WHOLE < self.h2)
+            | (Gas::WHOLE < self.h2s)
+            | (Gas::WHOLE < self.nh3)
+            | (Gas::WHOLE < self.n2);
+        let total = self.total();
+        over | (total != Gas::WHOLE as u64)
+    }
+
+    pub fn methane_wrong(self) -> bool
+        ensures { λ r. ⌜ r ≡ methaneWrong self ⌝ }
+    {
+        (self.ch4 == 0)
+            | (self.ch4 < self.co)
+            | (self.ch4 < self.h2)
+            | (self.ch4 < self.h2s)
+            | (self.ch4 < self.nh3)
+    }
+}

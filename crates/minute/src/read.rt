@@ -1,0 +1,58 @@
+// Reading a minute record alone, without a site, from any bytes.
+ghost use mathlib.Core.Path.{_≡_};
+ghost use Rattle.minute.specs.Record.{minuteOf, readMinute};
+use crate::Gas;
+use crate::Minute;
+use crate::MinuteRead;
+use crate::Readings;
+use records::Verdict;
+
+impl Minute {
+    // The fields, or the first of the refusals 1, 2 and 12 to 18, with 13 for a minute that no year has.
+    pub fn read(bytes: &[u8]) -> MinuteRead
+        ensures { λ r. ⌜ r ≡ readMinute (now (bytes .entry)) ⌝ }
+    {
+        match records::head(bytes, Minute::BYTES, Minute::VERSION) {
+            Verdict::Refuse(r) => MinuteRead::Refused(r),
+            Verdict::Fine => {
+                let minute = minute_in(bytes);
+                match minute.alone() {
+                    Verdict::Fine => MinuteRead::Fields(minute),
+                    Verdict::Refuse(r) => MinuteRead::Refused(r),
+                }
+            }
+        }
+    }
+}
+
+fn gas_in(b: &[u8]) -> Gas
+    ensures { λ r. ⌜ r ≡ minuteOf (now (b .entry)) .gas ⌝ }
+{
+    Gas {
+        ch4: records::u32_at(b, 14),
+        co: records::u32_at(b, 18),
+        co2: records::u32_at(b, 22),
+        o2: records::u32_at(b, 26),
+        h2: records::u32_at(b, 30),
+        h2s: records::u32_at(b, 34),
+        nh3: records::u32_at(b, 38),
+        n2: records::u32_at(b, 42),
+    }
+}
+
+fn minute_in(b: &[u8]) -> Minute
+    ensures { λ r. ⌜ r ≡ minuteOf (now (b .entry)) ⌝ }
+{
+    let exhaust = Readings {
+        oxygen: records::u32_at(b, 46),
+        methane: records::u32_at(b, 50),
+    };
+    Minute {
+        number: records::u32_at(b, 3),
+        flags: records::byte_at(b, 7),
+        temperature: records::signed(records::u16_at(b, 8)),
+        litres: records::u32_at(b, 10),
+        gas: gas_in(b),
+        exhaust: exhaust,
+    }
+}
