@@ -30,7 +30,7 @@ impl Gas {
             + self.n2 as u64
     }
 
-    pub fn composition_wrong(self) -> bool
+    pub(crate) fn composition_wrong(self) -> bool
         ensures { λ r. ⌜ r ≡ compositionWrong self ⌝ }
     {
         let over = (Gas::WHOLE < self.ch4)
@@ -45,7 +45,7 @@ impl Gas {
         over | (total != Gas::WHOLE as u64)
     }
 
-    pub fn methane_wrong(self) -> bool
+    pub(crate) fn methane_wrong(self) -> bool
         ensures { λ r. ⌜ r ≡ methaneWrong self ⌝ }
     {
         (self.ch4 == 0)

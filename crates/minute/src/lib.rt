@@ -43,7 +43,7 @@ impl Minute {
 
     pub const EXHAUST: u8 = 4;
 
-    pub const FLAGS: u8 = 7;
+    pub const FLAGS: u8 = Minute::FLAME + Minute::TEMPERATURE + Minute::EXHAUST;
 
     // Of a leap year.
     pub const MINUTES: u32 = 527_040;

@@ -1,6 +1,6 @@
 -- Document 01, "Records" and "Numbers a caller gets back": the ranges of a site's fields, and its refusals 3 to 9 in their order.
 use Prim.Native.Nat.{ℕ, _*_}
-use mathlib.Core.Bool.{Bool, _||_, _&&_}
+use mathlib.Core.Bool.{Bool, _||_, _&&_, not}
 use mathlib.Core.List.{List, [], _∷_}
 use lib.Dec.{ltb, leb, eqb}
 use lib.IntN.{pos}
@@ -13,11 +13,14 @@ use Rattle.site.specs.declared.Flows.{Flows}
 use Rattle.site.specs.declared.Site.{Site}
 
 -- "method: 0 default, 1 measured each minute"
+abbrev pub isDefault : Site → Bool
+isDefault s = eqb (s .method) 0
+
 abbrev pub isMeasured : Site → Bool
 isMeasured s = eqb (s .method) 1
 
 abbrev pub methodWrong : Site → Bool
-methodWrong s = above 1 (s .method)
+methodWrong s = not (isDefault s || isMeasured s)
 
 abbrev pub yearWrong : Site → Bool
 yearWrong s = outside 2000 2099 (s .year)

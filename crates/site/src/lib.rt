@@ -82,7 +82,7 @@ impl Site {
     fn method_wrong(self) -> bool
         ensures { λ r. ⌜ r ≡ methodWrong self ⌝ }
     {
-        Site::MEASURED < self.method
+        !((self.method == Site::DEFAULT) | (self.method == Site::MEASURED))
     }
 
     fn year_wrong(self) -> bool

@@ -20,49 +20,54 @@ impl Site {
         ensures { λ r. ⌜ r ≡ siteBytes self ⌝ }
     {
         let temperature = self.temperature;
-        let lowest = records::unsigned(temperature.lowest);
-        let highest = records::unsigned(temperature.highest);
-        self.laid(lowest, highest)
+        let coldest = records::unsigned(temperature.lowest);
+        let hottest = records::unsigned(temperature.highest);
+        self.laid(coldest, hottest)
     }
 
-    // The record's bytes, given the two bytes of each temperature.
-    fn laid(self, lowest: u16, highest: u16) -> [u8; Site::BYTES]
-        ensures { λ r. ⌜ r ≡ houseForm 30 1 (spread siteLayout (self .method ∷ self .year ∷ self .gwp ∷ self .height ∷ self .diameter ∷ lowest ∷ highest ∷ self .flow .lowest ∷ self .flow .highest ∷ self .days ∷ [])) ⌝ }
+    // The record's bytes, given each temperature's two bytes as one number.
+    fn laid(self, coldest: u16, hottest: u16) -> [u8; Site::BYTES]
+        ensures { λ r. ⌜ r ≡ houseForm 30 1 (spread siteLayout (self .method ∷ self .year ∷ self .gwp ∷ self .height ∷ self .diameter ∷ coldest ∷ hottest ∷ self .flow .lowest ∷ self .flow .highest ∷ self .days ∷ [])) ⌝ }
     {
-        let low = (lowest / 256) as u8;
-        let high = (highest / 256) as u8;
+        let year = self.year;
+        let gwp = self.gwp;
+        let height = self.height;
+        let diameter = self.diameter;
         let flow = self.flow;
+        let least = flow.lowest;
+        let most = flow.highest;
+        let days = self.days;
         [
             0,
             (Site::BYTES - 2) as u8,
             Site::VERSION,
             self.method,
-            (self.year / 256) as u8,
-            (self.year % 256) as u8,
-            (self.gwp / 256) as u8,
-            (self.gwp % 256) as u8,
-            (self.height / 256 / 256 / 256) as u8,
-            (self.height / 256 / 256 % 256) as u8,
-            (self.height / 256 % 256) as u8,
-            (self.height % 256) as u8,
-            (self.diameter / 256 / 256 / 256) as u8,
-            (self.diameter / 256 / 256 % 256) as u8,
-            (self.diameter / 256 % 256) as u8,
-            (self.diameter % 256) as u8,
-            low,
-            (lowest % 256) as u8,
-            high,
-            (highest % 256) as u8,
-            (flow.lowest / 256 / 256 / 256) as u8,
-            (flow.lowest / 256 / 256 % 256) as u8,
-            (flow.lowest / 256 % 256) as u8,
-            (flow.lowest % 256) as u8,
-            (flow.highest / 256 / 256 / 256) as u8,
-            (flow.highest / 256 / 256 % 256) as u8,
-            (flow.highest / 256 % 256) as u8,
-            (flow.highest % 256) as u8,
-            (self.days / 256) as u8,
-            (self.days % 256) as u8,
+            (year / 256) as u8,
+            (year % 256) as u8,
+            (gwp / 256) as u8,
+            (gwp % 256) as u8,
+            (height / 256 / 256 / 256) as u8,
+            (height / 256 / 256 % 256) as u8,
+            (height / 256 % 256) as u8,
+            (height % 256) as u8,
+            (diameter / 256 / 256 / 256) as u8,
+            (diameter / 256 / 256 % 256) as u8,
+            (diameter / 256 % 256) as u8,
+            (diameter % 256) as u8,
+            (coldest / 256) as u8,
+            (coldest % 256) as u8,
+            (hottest / 256) as u8,
+            (hottest % 256) as u8,
+            (least / 256 / 256 / 256) as u8,
+            (least / 256 / 256 % 256) as u8,
+            (least / 256 % 256) as u8,
+            (least % 256) as u8,
+            (most / 256 / 256 / 256) as u8,
+            (most / 256 / 256 % 256) as u8,
+            (most / 256 % 256) as u8,
+            (most % 256) as u8,
+            (days / 256) as u8,
+            (days % 256) as u8,
         ]
     }
 }
