@@ -6,12 +6,12 @@ use mathlib.Core.List.{List, [], _∷_, _++_, append-assoc}
 use native.Mathlib.Omega.{arith}
 use borrow.Author.Tests.{eqb-true, leb-true}
 use lib.Dec.{eqb, leb}
-use lib.ListN.{length, drop, length-append}
-use lib.Seq.{drop-length}
-use Rattle.exact.specs.Bytes.{AreBytes, cells, spelled, numberAt, bytesOf}
+use lib.ListN.{length, take, drop, length-append, length-drop, take-append-drop}
+use lib.Seq.{drop-length, length-take-le}
+use Rattle.exact.specs.Bytes.{AreBytes, cells, spelled, numberAt, bytesOf, put}
 use Rattle.exact.specs.Layout.{Field, bytes, Layout, width, laid, Maker, readBy, gapless}
 use Rattle.exact.proofs.Bools.{and-true}
-use Rattle.exact.proofs.Spelling.{bytesOf-length, spelled-bytesOf, bytesOf-numberAt, cells-drop, cells-between}
+use Rattle.exact.proofs.Spelling.{bytesOf-length, spelled-bytesOf, bytesOf-numberAt, cells-drop, cells-between, put-behind}
 
 -- the number of a field that is laid out behind front
 number-laid : (front rest : List ℕ) (i j x : ℕ) → i ≡ length front → i ≤ j
@@ -83,3 +83,26 @@ module _ {S : Type 0} where
       ∙ ap (λ (j : ℕ). cells w b i ++ drop j b) end
       ∙ cells-drop w b i room
       ∙ ap (λ (j : ℕ). drop j b) (p .start)
+
+  -- b with each field's bytes put at its place
+  abbrev pub filled : Layout S → S → List ℕ → List ℕ
+  filled [] s b = b
+  filled (bytes i j f ∷ l) s b = filled l s (put b i (bytesOf (width i j) (f s)))
+
+  pub filled-laid : (l : Layout S) (s : S) (front rest : List ℕ) (n : ℕ)
+      → gapless (length front) l n ≡ true → length front + length rest ≡ n → filled l s (front ++ rest) ≡ front ++ laid l s
+  filled-laid [] s front [] n g e = refl
+  filled-laid [] s front (x ∷ rest) n g e = absurd (omega (arith, eqb-true (length front) n g))
+  filled-laid (bytes i j f ∷ l) s front rest n g e =
+      let p = first (length front) i j f l n g in
+      let w = width i j in
+      let xs = bytesOf w (f s) in
+      let room : w ≤ length rest = omega (arith, within (suc j) l n (p .rest), p .start, p .order) in
+      let same : length (take w rest) ≡ length xs = length-take-le w rest room ∙ sym (bytesOf-length w (f s)) in
+      let next : length (front ++ xs) ≡ suc j =
+      length-append front xs ∙ omega (arith, bytesOf-length w (f s), p .start, p .order) in
+      let left : length (front ++ xs) + length (drop w rest) ≡ n = omega (arith, length-drop w rest, next, p .start, p .order) in
+      (λ t. filled l s (put (front ++ sym (take-append-drop w rest) t) (p .start t) xs))
+      ∙ ap (filled l s) (put-behind xs front (take w rest) (drop w rest) same ∙ sym (append-assoc front xs (drop w rest)))
+      ∙ filled-laid l s (front ++ xs) (drop w rest) n (ap (λ (k : ℕ). gapless k l n) next ∙ p .rest) left
+      ∙ append-assoc front xs (laid l s)

@@ -5,11 +5,11 @@ use mathlib.Core.List.{List, [], _∷_, _++_}
 use native.Mathlib.Omega.{arith}
 use native.Mathlib.Nat.{add-zero}
 use native.Mathlib.Numerals.{add-one}
-use lib.ListN.{length, getD, drop, length-append}
-use lib.Seq.{drop-cons, append-snoc, getD-append-seam}
+use lib.ListN.{length, getD, drop, set, length-append, length-set}
+use lib.Seq.{drop-cons, append-snoc, getD-append-seam, set-append-seam}
 use mir.ValLaws.{ofZ-toZ}
 use mir.Syntax.{w16}
-use Rattle.exact.specs.Bytes.{AreBytes, byteAt, cells, after, spelled, numberAt, bytesOf, signed, unsigned}
+use Rattle.exact.specs.Bytes.{AreBytes, byteAt, cells, after, spelled, numberAt, bytesOf, put, signed, unsigned}
 
 after-last : (a : ℕ) (xs : List ℕ) (y : ℕ) → after a (xs ++ (y ∷ [])) ≡ after a xs * 256 + y
 after-last a [] y = refl
@@ -75,3 +75,21 @@ cells-between (x ∷ xs) front rest =
 -- two bytes as a signed number, and as its two bytes again
 pub unsigned-signed : (b : List ℕ) → AreBytes b → (k : ℕ) → unsigned (signed (numberAt 2 b k)) ≡ numberAt 2 b k
 unsigned-signed b h k = ofZ-toZ w16 (numberAt 2 b k) (record { fits = omega (arith, h k, h (k + 1)) })
+
+pub length-put : (b : List ℕ) (k : ℕ) (xs : List ℕ) → length (put b k xs) ≡ length b
+unfolding put
+length-put b k [] = refl
+length-put b k (x ∷ xs) = length-put (set b k x) (k + 1) xs ∙ length-set b k x
+
+-- what is put right behind a front stands between it and the rest
+pub put-behind : (xs front old rest : List ℕ) → length old ≡ length xs → put (front ++ (old ++ rest)) (length front) xs ≡ front ++ (xs ++ rest)
+unfolding put
+put-behind [] front [] rest e = refl
+put-behind [] front (y ∷ old) rest e = absurd (omega arith)
+put-behind (x ∷ xs) front [] rest e = absurd (omega arith)
+put-behind (x ∷ xs) front (y ∷ old) rest e =
+    let stored = set-append-seam front y (old ++ rest) x ∙ sym (append-snoc front x (old ++ rest)) in
+    let next = sym (length-append front (x ∷ [])) in
+    (λ i. put (stored i) (next i) xs)
+    ∙ put-behind xs (front ++ (x ∷ [])) old rest (omega arith)
+    ∙ append-snoc front x (xs ++ rest)

@@ -1,7 +1,7 @@
 -- Numbers in bytes, the most significant first.
 use Prim.Native.Nat.{ℕ, zero, suc, _+_, _*_, _/_, _%_, _<_}
 use mathlib.Core.List.{List, [], _∷_, _++_}
-use lib.ListN.{getD}
+use lib.ListN.{getD, set}
 use lib.IntN.{ℤ}
 use mir.Val.{toZ, ofZ}
 use mir.Syntax.{w16}
@@ -38,6 +38,11 @@ abbrev pub bytesOf : ℕ → ℕ → List ℕ
 bytesOf zero x = []
 bytesOf (suc zero) x = x ∷ []
 bytesOf (suc (suc n)) x = bytesOf (suc n) (x / 256) ++ (x % 256 ∷ [])
+
+-- b with xs in place of what it has from place k on; nothing is put past the end
+unfoldable pub put : List ℕ → ℕ → List ℕ → List ℕ
+put b k [] = b
+put b k (x ∷ xs) = put (set b k x) (k + 1) xs
 
 -- two bytes as a signed number, in two's complement, as the language's own i16 has it; and back
 abbrev pub signed : ℕ → ℤ

@@ -17,20 +17,10 @@ Layout S = List (Field S)
 abbrev pub width : ℕ → ℕ → ℕ
 width first last = suc last - first
 
--- a record's numbers, in the table's order
-abbrev pub numbers : {S : Type 0} → Layout S → S → List ℕ
-numbers [] s = []
-numbers (bytes i j f ∷ l) s = f s ∷ numbers l s
-
--- numbers in the bytes of the fields, one after the other
-abbrev pub spread : {S : Type 0} → Layout S → List ℕ → List ℕ
-spread [] xs = []
-spread (bytes i j f ∷ l) [] = []
-spread (bytes i j f ∷ l) (x ∷ xs) = bytesOf (width i j) x ++ spread l xs
-
--- a record's fields as bytes
+-- a record's fields as bytes, one after the other
 abbrev pub laid : {S : Type 0} → Layout S → S → List ℕ
-laid l s = spread l (numbers l s)
+laid [] s = []
+laid (bytes i j f ∷ l) s = bytesOf (width i j) (f s) ++ laid l s
 
 -- what makes an R of a number for each field, in the table's order
 abbrev pub Maker : {S : Type 0} → Layout S → Type 0 → Type 0

@@ -1,10 +1,10 @@
 // Writing a minute record into any buffer.
 ghost use mathlib.Core.Path.{_≡_};
-ghost use mathlib.Core.List.{[], _∷_};
-ghost use Rattle.exact.specs.Layout.{spread};
-ghost use Rattle.records.specs.House.{houseForm, written};
-ghost use Rattle.minute.specs.Record.{minuteLayout, minuteBytes, writeMinute};
+ghost use lib.ListN.{length};
+ghost use Rattle.records.specs.House.{written};
+ghost use Rattle.minute.specs.Record.{minuteBytes, writeMinute};
 use crate::Minute;
+use records::Refusal;
 use records::Verdict;
 
 impl Minute {
@@ -12,90 +12,37 @@ impl Minute {
     pub fn write(self, out: &mut [u8]) -> Verdict
         ensures { λ r. ⌜ (r ≡ writeMinute self (now (out .entry))) × (now (out .exit) ≡ written (now (out .entry)) (minuteBytes self) r) ⌝ }
     {
-        let image = self.image();
-        records::store(&image, self.alone(), out)
+        let buffer = Verdict::Fine.also(out.len() != Minute::BYTES, Refusal::Buffer);
+        let verdict = buffer.then(self.alone());
+        match verdict {
+            Verdict::Refuse(r) => Verdict::Refuse(r),
+            Verdict::Fine => {
+                self.fill(out);
+                Verdict::Fine
+            }
+        }
     }
 
-    fn image(self) -> [u8; Minute::BYTES]
-        ensures { λ r. ⌜ r ≡ minuteBytes self ⌝ }
+    fn fill(self, out: &mut [u8])
+        requires { ⌜ length (now out) ≡ 54 ⌝ }
+        ensures { λ _. ⌜ now (out .exit) ≡ minuteBytes self ⌝ }
     {
-        let temperature = records::unsigned(self.temperature);
-        self.laid(temperature)
-    }
-
-    // The record's bytes, given the temperature's two bytes as one number.
-    fn laid(self, temperature: u16) -> [u8; Minute::BYTES]
-        ensures { λ r. ⌜ r ≡ houseForm 54 1 (spread minuteLayout (self .number ∷ self .flags ∷ temperature ∷ self .litres ∷ self .gas .ch4 ∷ self .gas .co ∷ self .gas .co2 ∷ self .gas .o2 ∷ self .gas .h2 ∷ self .gas .h2s ∷ self .gas .nh3 ∷ self .gas .n2 ∷ self .exhaust .oxygen ∷ self .exhaust .methane ∷ [])) ⌝ }
-    {
-        let number = self.number;
-        let litres = self.litres;
         let gas = self.gas;
-        let ch4 = gas.ch4;
-        let co = gas.co;
-        let co2 = gas.co2;
-        let o2 = gas.o2;
-        let h2 = gas.h2;
-        let h2s = gas.h2s;
-        let nh3 = gas.nh3;
-        let n2 = gas.n2;
         let exhaust = self.exhaust;
-        let oxygen = exhaust.oxygen;
-        let methane = exhaust.methane;
-        [
-            0,
-            (Minute::BYTES - 2) as u8,
-            Minute::VERSION,
-            (number / 256 / 256 / 256) as u8,
-            (number / 256 / 256 % 256) as u8,
-            (number / 256 % 256) as u8,
-            (number % 256) as u8,
-            self.flags,
-            (temperature / 256) as u8,
-            (temperature % 256) as u8,
-            (litres / 256 / 256 / 256) as u8,
-            (litres / 256 / 256 % 256) as u8,
-            (litres / 256 % 256) as u8,
-            (litres % 256) as u8,
-            (ch4 / 256 / 256 / 256) as u8,
-            (ch4 / 256 / 256 % 256) as u8,
-            (ch4 / 256 % 256) as u8,
-            (ch4 % 256) as u8,
-            (co / 256 / 256 / 256) as u8,
-            (co / 256 / 256 % 256) as u8,
-            (co / 256 % 256) as u8,
-            (co % 256) as u8,
-            (co2 / 256 / 256 / 256) as u8,
-            (co2 / 256 / 256 % 256) as u8,
-            (co2 / 256 % 256) as u8,
-            (co2 % 256) as u8,
-            (o2 / 256 / 256 / 256) as u8,
-            (o2 / 256 / 256 % 256) as u8,
-            (o2 / 256 % 256) as u8,
-            (o2 % 256) as u8,
-            (h2 / 256 / 256 / 256) as u8,
-            (h2 / 256 / 256 % 256) as u8,
-            (h2 / 256 % 256) as u8,
-            (h2 % 256) as u8,
-            (h2s / 256 / 256 / 256) as u8,
-            (h2s / 256 / 256 % 256) as u8,
-            (h2s / 256 % 256) as u8,
-            (h2s % 256) as u8,
-            (nh3 / 256 / 256 / 256) as u8,
-            (nh3 / 256 / 256 % 256) as u8,
-            (nh3 / 256 % 256) as u8,
-            (nh3 % 256) as u8,
-            (n2 / 256 / 256 / 256) as u8,
-            (n2 / 256 / 256 % 256) as u8,
-            (n2 / 256 % 256) as u8,
-            (n2 % 256) as u8,
-            (oxygen / 256 / 256 / 256) as u8,
-            (oxygen / 256 / 256 % 256) as u8,
-            (oxygen / 256 % 256) as u8,
-            (oxygen % 256) as u8,
-            (methane / 256 / 256 / 256) as u8,
-            (methane / 256 / 256 % 256) as u8,
-            (methane / 256 % 256) as u8,
-            (methane % 256) as u8,
-        ]
+        records::put_head(out, (Minute::BYTES - 2) as u16, Minute::VERSION);
+        records::put_u32(out, 3, self.number);
+        records::put_byte(out, 7, self.flags);
+        records::put_u16(out, 8, records::unsigned(self.temperature));
+        records::put_u32(out, 10, self.litres);
+        records::put_u32(out, 14, gas.ch4);
+        records::put_u32(out, 18, gas.co);
+        records::put_u32(out, 22, gas.co2);
+        records::put_u32(out, 26, gas.o2);
+        records::put_u32(out, 30, gas.h2);
+        records::put_u32(out, 34, gas.h2s);
+        records::put_u32(out, 38, gas.nh3);
+        records::put_u32(out, 42, gas.n2);
+        records::put_u32(out, 46, exhaust.oxygen);
+        records::put_u32(out, 50, exhaust.methane);
     }
 }

@@ -3,3 +3,4 @@ pub mod Reading
 pub mod RoundTrip
 pub mod Tables
 pub mod Unique
+pub mod Writing

@@ -1,10 +1,8 @@
--- Reading and writing, for any record: the head's table and then the fields', the buffer's and then the fields'.
-use Prim.Native.Nat.{ℕ}
-use mathlib.Core.Path.{_≡_, refl, sym, ap, ap₂, _∙_}
+-- Reading, for any record: the head's table and then the fields'.
+use mathlib.Core.Path.{_≡_, sym, ap, _∙_}
 use mathlib.Core.List.{List, _++_}
-use lib.ListN.{length}
 use Rattle.records.specs.Tables.{Line, firstOf, after}
-use Rattle.records.specs.House.{bufferLines, answered, stored}
+use Rattle.records.specs.House.{answered}
 use Rattle.records.specs.declared.refusal.Refusal.{Refusal}
 use Rattle.records.specs.declared.verdict.Verdict.{Verdict}
 use Rattle.records.specs.declared.verdict.Verdict.the-variants.{Fine, Refuse}
@@ -21,8 +19,3 @@ module _ {S R : Type 0} (fields : S → R) (refused : Refusal → R) (lines : S 
       ap (answered fields refused read) verdict
       ∙ ap (λ (y : S). answered fields refused y (firstOf (lines y))) same
       ∙ sym (ap (answered fields refused s) (joined head (lines s) ∙ ap (λ (w : Verdict). after w (firstOf (lines s))) e))
-
--- what storing a record's bytes answers
-pub by-buffer : (n : ℕ) (image out : List ℕ) (lines : List Line) → length image ≡ n → stored image (firstOf lines) out ≡ firstOf (bufferLines n out ++ lines)
-by-buffer n image out lines e =
-    ap (λ (k : ℕ). after (firstOf (bufferLines k out)) (firstOf lines)) e ∙ sym (joined (bufferLines n out) lines)

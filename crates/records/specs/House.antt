@@ -5,7 +5,7 @@ use mathlib.Core.List.{List, [], _∷_, _++_}
 use lib.ListN.{length}
 use lib.Dec.{eqb}
 use Rattle.exact.specs.Bytes.{byteAt, numberAt, bytesOf}
-use Rattle.records.specs.Tables.{Line, when, firstOf, after}
+use Rattle.records.specs.Tables.{Line, when}
 use Rattle.records.specs.declared.refusal.Refusal.{Refusal}
 use Rattle.records.specs.declared.refusal.Refusal.the-variants.{Length, Version, Buffer}
 use Rattle.records.specs.declared.verdict.Verdict.{Verdict}
@@ -30,10 +30,6 @@ bufferLines n out = when (not (eqb (length out) n)) Buffer ∷ []
 abbrev pub answered : {S R : Type 0} → (S → R) → (Refusal → R) → S → Verdict → R
 answered fields refused s Fine = fields s
 answered fields refused s (Refuse r) = refused r
-
--- writing a record's bytes whose fields have a verdict: 22, then that verdict
-abbrev pub stored : List ℕ → Verdict → List ℕ → Verdict
-stored image fields out = after (firstOf (bufferLines (length image) out)) fields
 
 -- what a lent buffer holds after the call: the record's bytes, or where the call refuses its own
 abbrev pub written : List ℕ → List ℕ → Verdict → List ℕ

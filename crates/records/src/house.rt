@@ -1,8 +1,12 @@
 // The house form: a two-byte length, which counts the bytes after it, then a version byte, then the fields.
 ghost use mathlib.Core.Path.{_≡_};
+ghost use mathlib.Core.List.{[], _∷_};
+ghost use Rattle.exact.specs.Bytes.{bytesOf, put};
 ghost use Rattle.records.specs.Tables.{firstOf};
-ghost use Rattle.records.specs.House.{headLines, stored, written};
+ghost use Rattle.records.specs.House.{headLines};
 use crate::number::byte_at;
+use crate::number::put_byte;
+use crate::number::put_u16;
 use crate::number::u16_at;
 use crate::refusal::Refusal;
 use crate::verdict::Verdict;
@@ -18,18 +22,10 @@ pub fn head(b: &[u8], size: usize, version: u8) -> Verdict
         .also(first != version, Refusal::Version)
 }
 
-// Puts a record's bytes into a buffer of their length. Refuses 22, then what the fields are refused for, and then leaves the buffer as it was.
-pub fn store(image: &[u8], fields: Verdict, out: &mut [u8]) -> Verdict
-    ensures { λ r. ⌜ (r ≡ stored (now (image .entry)) fields (now (out .entry))) × (now (out .exit) ≡ written (now (out .entry)) (now (image .entry)) r) ⌝ }
+// Puts the length field and the version of a record into its buffer.
+pub fn put_head(b: &mut [u8], length: u16, version: u8)
+    ensures { λ _. ⌜ now (b .exit) ≡ put (put (now (b .entry)) 0 (bytesOf 2 length)) 2 (version ∷ []) ⌝ }
 {
-    if out.len() != image.len() {
-        return Verdict::Refuse(Refusal::Buffer);
-    }
-    match fields {
-        Verdict::Refuse(r) => Verdict::Refuse(r),
-        Verdict::Fine => {
-            bytes::copy(image, out);
-            Verdict::Fine
-        }
-    }
+    put_u16(b, 0, length);
+    put_byte(b, 2, version);
 }

@@ -5,8 +5,11 @@ mod refusal;
 mod verdict;
 
 pub use house::head;
-pub use house::store;
+pub use house::put_head;
 pub use number::byte_at;
+pub use number::put_byte;
+pub use number::put_u16;
+pub use number::put_u32;
 pub use number::signed;
 pub use number::u16_at;
 pub use number::u32_at;

@@ -1,6 +1,6 @@
 // What a row of tests comes to: the first refusal, or nothing to refuse.
 ghost use mathlib.Core.Path.{_≡_};
-ghost use Rattle.records.specs.Tables.{also};
+ghost use Rattle.records.specs.Tables.{also, after};
 use crate::refusal::Refusal;
 
 pub enum Verdict {
@@ -22,6 +22,16 @@ impl Verdict {
                     Verdict::Fine
                 }
             }
+        }
+    }
+
+    // Another verdict after this one; an earlier refusal stands.
+    pub fn then(self, next: Verdict) -> Verdict
+        ensures { λ r. ⌜ r ≡ after self next ⌝ }
+    {
+        match self {
+            Verdict::Refuse(first) => Verdict::Refuse(first),
+            Verdict::Fine => next,
         }
     }
 }

@@ -1,10 +1,10 @@
 // Writing a site record into any buffer.
 ghost use mathlib.Core.Path.{_≡_};
-ghost use mathlib.Core.List.{[], _∷_};
-ghost use Rattle.exact.specs.Layout.{spread};
-ghost use Rattle.records.specs.House.{houseForm, written};
-ghost use Rattle.site.specs.Record.{siteLayout, siteBytes, writeSite};
+ghost use lib.ListN.{length};
+ghost use Rattle.records.specs.House.{written};
+ghost use Rattle.site.specs.Record.{siteBytes, writeSite};
 use crate::Site;
+use records::Refusal;
 use records::Verdict;
 
 impl Site {
@@ -12,62 +12,33 @@ impl Site {
     pub fn write(self, out: &mut [u8]) -> Verdict
         ensures { λ r. ⌜ (r ≡ writeSite self (now (out .entry))) × (now (out .exit) ≡ written (now (out .entry)) (siteBytes self) r) ⌝ }
     {
-        let image = self.image();
-        records::store(&image, self.verdict(), out)
+        let buffer = Verdict::Fine.also(out.len() != Site::BYTES, Refusal::Buffer);
+        let verdict = buffer.then(self.verdict());
+        match verdict {
+            Verdict::Refuse(r) => Verdict::Refuse(r),
+            Verdict::Fine => {
+                self.fill(out);
+                Verdict::Fine
+            }
+        }
     }
 
-    fn image(self) -> [u8; Site::BYTES]
-        ensures { λ r. ⌜ r ≡ siteBytes self ⌝ }
+    fn fill(self, out: &mut [u8])
+        requires { ⌜ length (now out) ≡ 30 ⌝ }
+        ensures { λ _. ⌜ now (out .exit) ≡ siteBytes self ⌝ }
     {
         let temperature = self.temperature;
-        let coldest = records::unsigned(temperature.lowest);
-        let hottest = records::unsigned(temperature.highest);
-        self.laid(coldest, hottest)
-    }
-
-    // The record's bytes, given each temperature's two bytes as one number.
-    fn laid(self, coldest: u16, hottest: u16) -> [u8; Site::BYTES]
-        ensures { λ r. ⌜ r ≡ houseForm 30 1 (spread siteLayout (self .method ∷ self .year ∷ self .gwp ∷ self .height ∷ self .diameter ∷ coldest ∷ hottest ∷ self .flow .lowest ∷ self .flow .highest ∷ self .days ∷ [])) ⌝ }
-    {
-        let year = self.year;
-        let gwp = self.gwp;
-        let height = self.height;
-        let diameter = self.diameter;
         let flow = self.flow;
-        let least = flow.lowest;
-        let most = flow.highest;
-        let days = self.days;
-        [
-            0,
-            (Site::BYTES - 2) as u8,
-            Site::VERSION,
-            self.method,
-            (year / 256) as u8,
-            (year % 256) as u8,
-            (gwp / 256) as u8,
-            (gwp % 256) as u8,
-            (height / 256 / 256 / 256) as u8,
-            (height / 256 / 256 % 256) as u8,
-            (height / 256 % 256) as u8,
-            (height % 256) as u8,
-            (diameter / 256 / 256 / 256) as u8,
-            (diameter / 256 / 256 % 256) as u8,
-            (diameter / 256 % 256) as u8,
-            (diameter % 256) as u8,
-            (coldest / 256) as u8,
-            (coldest % 256) as u8,
-            (hottest / 256) as u8,
-            (hottest % 256) as u8,
-            (least / 256 / 256 / 256) as u8,
-            (least / 256 / 256 % 256) as u8,
-            (least / 256 % 256) as u8,
-            (least % 256) as u8,
-            (most / 256 / 256 / 256) as u8,
-            (most / 256 / 256 % 256) as u8,
-            (most / 256 % 256) as u8,
-            (most % 256) as u8,
-            (days / 256) as u8,
-            (days % 256) as u8,
-        ]
+        records::put_head(out, (Site::BYTES - 2) as u16, Site::VERSION);
+        records::put_byte(out, 3, self.method);
+        records::put_u16(out, 4, self.year);
+        records::put_u16(out, 6, self.gwp);
+        records::put_u32(out, 8, self.height);
+        records::put_u32(out, 12, self.diameter);
+        records::put_u16(out, 16, records::unsigned(temperature.lowest));
+        records::put_u16(out, 18, records::unsigned(temperature.highest));
+        records::put_u32(out, 20, flow.lowest);
+        records::put_u32(out, 24, flow.highest);
+        records::put_u16(out, 28, self.days);
     }
 }

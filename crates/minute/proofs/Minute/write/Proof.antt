@@ -1,56 +1,69 @@
-use Prim.Native.Nat.{ℕ}
-use mathlib.Core.Path.{refl, ap, ap₂, _∙_}
-use mathlib.Core.List.{List}
+use mathlib.Core.Path.{_≡_, refl, sym, _∙_}
 use denote.Ref.{now}
-use Rattle.records.specs.House.{stored, written}
-use Rattle.records.specs.declared.verdict.Verdict.{Verdict}
-use Rattle.records.proofs.Reading.{by-buffer}
+use Rattle.records.proofs.Writing.{by-buffer, room}
 use Rattle.minute.specs.Rules.{aloneLines}
-use Rattle.minute.specs.Record.{minuteBytes, writeMinute}
+use Rattle.minute.specs.Record.{writeMinute}
 use borrow.Author.Needs.{needs}
 use Rattle.minute.proofs.Minute.write.Statement.{statement}
 use Rattle.minute.proofs.Minute.write.Tie as tie
 use Rattle.minute.proofs.Minute.write.Reads as reads
 use Rattle.minute.proofs.Minute.write.Lts as lts
-use Rattle.records.proofs.store.Reads as store-reads
-use Rattle.minute.proofs.Minute.image.Reads as image-reads
+use Rattle.records.proofs.verdict.Verdict.also.Reads as also-reads
+use Rattle.records.proofs.verdict.Verdict.then.Reads as then-reads
+use Rattle.minute.proofs.Minute.fill.Reads as fill-reads
 use Rattle.minute.proofs.Minute.alone.Reads as alone-reads
 
-image-requires : tie.Need-image-requires
-image-requires c κs = search needs
-
-slice-aggregate-store : tie.Need-slice-aggregate-store
-slice-aggregate-store c = search needs
+also-requires : tie.Need-also-requires
+also-requires c κs = search needs
 
 alone-requires : tie.Need-alone-requires
 alone-requires c κs = search needs
 
-store-requires : tie.Need-store-requires
-store-requires c κs = search needs
+then-requires : tie.Need-then-requires
+then-requires c κs = search needs
+
+enum-known-verdict : tie.Need-enum-known-verdict
+enum-known-verdict c = search needs
+
+enum-told : tie.Need-enum-told
+enum-told c = search needs
+
+-- the verdict is the table's
+decided : (t : tie.After-then) → t .then .result ≡ writeMinute (t .before .before .before .before .args .self) (now (t .before .before .before .before .args .out))
+unfolding writeMinute
+decided t =
+    let a = t .before .before .before .before .args in
+    by-buffer 54 (now (a .out)) (aloneLines (a .self)) (t .before .before .also .ensures) (t .before .alone .ensures) (t .then .ensures)
+
+fill-requires : tie.Need-fill-requires
+unfolding writeMinute
+fill-requires c κs =
+    let t = c .before .before .before in
+    let a = t .before .before .before .before .args in
+    room 54 (now (a .out)) (aloneLines (a .self)) (sym (decided t) ∙ c .before .enum-told .given .1)
+
+returns : tie.Need-returns
+returns c = (sym (c .before .verdict .given .1) ∙ decided (c .before .before .before), refl)
 
 same-length : tie.Need-same-length
 same-length c = search needs
 
-returns : tie.Need-returns
-unfolding minuteBytes writeMinute
-returns c =
+returns-2 : tie.Need-returns-2
+returns-2 c =
     let p = c .before .before in
-    let v = p .before .before in
-    let i = v .before .before in
-    let s = i .before .before .args .self in
-    let out = now (i .before .before .args .out) in
-    let is = ap₂ (λ (b : List ℕ) (w : Verdict). stored b w out) (i .image .ensures) (v .alone .ensures) in (
-      p .store .ensures .0 ∙ is ∙ by-buffer 54 (minuteBytes s) out (aloneLines s) refl,
-      p .store .ensures .1 ∙ ap (λ (b : List ℕ). written out b (p .store .result)) (i .image .ensures),
-    )
+    let e = p .before .before in
+    (sym (e .enum-told .given .1) ∙ decided (e .before .before), p .fill .ensures)
 
 pub write-spec : {M : Type 1} → statement M
 write-spec =
     tie.close
     (tie.spec
-    image-requires
-    slice-aggregate-store
+    also-requires
     alone-requires
-    store-requires
+    then-requires
+    enum-known-verdict
+    enum-told
+    fill-requires
+    returns
     same-length
-    returns)
+    returns-2)

@@ -1,0 +1,41 @@
+-- Writing, for any record: the buffer's table and then the fields', and each field put at its place.
+use Prim.Native.Nat.{ℕ, _+_, _-_, _/_, _%_}
+use mathlib.Core.Path.{_≡_, sym, ap₂, _∙_}
+use mathlib.Core.Bool.{true, not}
+use mathlib.Core.List.{List, [], _∷_, _++_}
+use native.Mathlib.Omega.{arith}
+use borrow.Author.Tests.{eqb-true, not-false}
+use lib.Dec.{eqb}
+use lib.ListN.{length}
+use Rattle.exact.specs.Bytes.{bytesOf, put}
+use Rattle.exact.specs.Layout.{Layout, laid, gapless}
+use Rattle.exact.proofs.Layouts.{within, filled, filled-laid}
+use Rattle.records.specs.Tables.{Line, firstOf, also, after}
+use Rattle.records.specs.House.{houseForm, bufferLines}
+use Rattle.records.specs.declared.refusal.Refusal.the-variants.{Buffer}
+use Rattle.records.specs.declared.verdict.Verdict.{Verdict}
+use Rattle.records.specs.declared.verdict.Verdict.the-variants.{Fine}
+use Rattle.records.proofs.Tables.{chained, joined, both-fine, none}
+
+module _ {S : Type 0} (n version : ℕ) (layout : Layout S) (s : S) where
+  pub filled-record : (b : List ℕ) → gapless 3 layout n ≡ true → length b ≡ n
+      → filled layout s (put (put b 0 (bytesOf 2 (n - 2))) 2 (version ∷ [])) ≡ houseForm n version (laid layout s)
+  unfolding put
+  filled-record [] g e = absurd (omega (arith, within 3 layout n g))
+  filled-record (x ∷ []) g e = absurd (omega (arith, within 3 layout n g))
+  filled-record (x ∷ y ∷ []) g e = absurd (omega (arith, within 3 layout n g))
+  filled-record (x ∷ y ∷ z ∷ rest) g e =
+      filled-laid layout s ((n - 2) / 256 ∷ (n - 2) % 256 ∷ version ∷ []) rest n g (omega arith)
+
+-- the buffer's verdict and then the fields' are the table's
+pub by-buffer : (n : ℕ) (out : List ℕ) (lines : List Line) {buffer fields verdict : Verdict}
+    → buffer ≡ also Fine (not (eqb (length out) n)) Buffer → fields ≡ firstOf lines → verdict ≡ after buffer fields
+    → verdict ≡ firstOf (bufferLines n out ++ lines)
+by-buffer n out lines b f v =
+    v ∙ ap₂ after (b ∙ chained (bufferLines n out)) f ∙ sym (joined (bufferLines n out) lines)
+
+-- a table that is fine had a buffer of the right size
+pub room : (n : ℕ) (out : List ℕ) (lines : List Line) → firstOf (bufferLines n out ++ lines) ≡ Fine → length out ≡ n
+room n out lines e =
+    let fine = both-fine (firstOf (bufferLines n out)) (firstOf lines) (sym (joined (bufferLines n out) lines) ∙ e) .0 in
+    eqb-true (length out) n (not-false (eqb (length out) n) (none (bufferLines n out) fine .0))

@@ -1,0 +1,28 @@
+use mathlib.Core.Path.{refl, sym}
+use denote.Ref.{now}
+use lib.Seq.{set-out}
+use Rattle.exact.specs.Bytes.{put}
+use borrow.Author.Needs.{needs}
+use Rattle.records.proofs.number.put_byte.Statement.{statement}
+use Rattle.records.proofs.number.put_byte.Tie as tie
+use Rattle.records.proofs.number.put_byte.Reads as reads
+use Rattle.records.proofs.number.put_byte.Lts as lts
+
+slice-write-b : tie.Need-slice-write-b
+slice-write-b c = search needs
+
+same-length : tie.Need-same-length
+same-length c = search needs
+
+returns : tie.Need-returns
+unfolding put
+returns c = refl
+
+returns-2 : tie.Need-returns-2
+unfolding put
+returns-2 c =
+    let a = c .before .args in
+    sym (set-out (now (a .b)) (a .k) (a .x) (c .if1 .left))
+
+pub put-byte-spec : {M : Type 1} → statement M
+put-byte-spec = tie.close (tie.spec slice-write-b same-length returns returns-2)

@@ -1,0 +1,20 @@
+use borrow.Author.Needs.{needs}
+use Rattle.records.proofs.verdict.Verdict.then.Statement.{statement}
+use Rattle.records.proofs.verdict.Verdict.then.Tie as tie
+use Rattle.records.proofs.verdict.Verdict.then.Reads as reads
+use Rattle.records.proofs.verdict.Verdict.then.Lts as lts
+
+enum-known-self : tie.Need-enum-known-self
+enum-known-self c = search needs
+
+enum-told : tie.Need-enum-told
+enum-told c = search needs
+
+returns : tie.Need-returns
+returns c = rw (c .before .self .given .1)
+
+returns-2 : tie.Need-returns-2
+returns-2 c = search needs
+
+pub then-spec : {M : Type 1} → statement M
+then-spec = tie.close (tie.spec enum-known-self enum-told returns returns-2)
