@@ -13,7 +13,8 @@ impl Minute {
         ensures { λ r. ⌜ (r ≡ writeMinute self (now (out .entry))) × (now (out .exit) ≡ written (now (out .entry)) (minuteBytes self) r) ⌝ }
     {
         let buffer = Verdict::Fine.also(out.len() != Minute::BYTES, Refusal::Buffer);
-        let verdict = buffer.then(self.alone());
+        let fields = self.alone();
+        let verdict = buffer.then(fields);
         match verdict {
             Verdict::Refuse(r) => Verdict::Refuse(r),
             Verdict::Fine => {

@@ -30,7 +30,7 @@ impl Verdict {
         ensures { λ r. ⌜ r ≡ after self next ⌝ }
     {
         match self {
-            Verdict::Refuse(first) => Verdict::Refuse(first),
+            Verdict::Refuse(earlier) => Verdict::Refuse(earlier),
             Verdict::Fine => next,
         }
     }

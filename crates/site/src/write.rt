@@ -13,7 +13,8 @@ impl Site {
         ensures { λ r. ⌜ (r ≡ writeSite self (now (out .entry))) × (now (out .exit) ≡ written (now (out .entry)) (siteBytes self) r) ⌝ }
     {
         let buffer = Verdict::Fine.also(out.len() != Site::BYTES, Refusal::Buffer);
-        let verdict = buffer.then(self.verdict());
+        let fields = self.verdict();
+        let verdict = buffer.then(fields);
         match verdict {
             Verdict::Refuse(r) => Verdict::Refuse(r),
             Verdict::Fine => {
