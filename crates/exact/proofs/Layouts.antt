@@ -1,5 +1,5 @@
 -- A layout without a gap, both ways: what is laid out is read, and what is read is laid out.
-use Prim.Native.Nat.{ℕ, zero, suc, _+_, _-_, _≤_}
+use Prim.Native.Nat.{ℕ, suc, _+_, _-_, _≤_}
 use mathlib.Core.Path.{_≡_, refl, sym, ap, ap₂, _∙_}
 use mathlib.Core.Bool.{true, _&&_}
 use mathlib.Core.List.{List, [], _∷_, _++_, append-assoc}
@@ -9,7 +9,7 @@ use lib.Dec.{eqb, leb}
 use lib.ListN.{length, take, drop, length-append, length-drop, take-append-drop}
 use lib.Seq.{drop-length, length-take-le}
 use Rattle.exact.specs.Bytes.{AreBytes, cells, spelled, numberAt, bytesOf, put}
-use Rattle.exact.specs.Layout.{Field, bytes, Layout, width, laid, Maker, readBy, gapless}
+use Rattle.exact.specs.Layout.{bytes, Layout, width, laid, Maker, readBy, gapless}
 use Rattle.exact.proofs.Bools.{and-true}
 use Rattle.exact.proofs.Spelling.{bytesOf-length, spelled-bytesOf, bytesOf-numberAt, cells-drop, cells-between, put-behind}
 

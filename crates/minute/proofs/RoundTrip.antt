@@ -9,14 +9,14 @@ use mir.Val.{SFits}
 use mir.ValLaws.{toZ-ofZ}
 use mir.Syntax.{w16}
 use Rattle.exact.specs.Bytes.{AreBytes}
-use Rattle.exact.specs.Ranges.{outsideZ, minus}
+use Rattle.exact.specs.Ranges.{outsideZ}
 use Rattle.exact.proofs.Bools.{either}
 use Rattle.exact.proofs.Layouts.{made, Holds}
 use Rattle.exact.proofs.Ranges.{inside-fits, zero-fits}
 use Rattle.exact.proofs.Spelling.{unsigned-signed}
+use Rattle.records.specs.Ranges.{temperatureOutside}
 use Rattle.records.specs.Tables.{firstOf}
 use Rattle.records.specs.RoundTrip.{ReadsBack, WritesBack}
-use Rattle.records.specs.declared.refusal.Refusal.{Refusal}
 use Rattle.records.specs.declared.verdict.Verdict.the-variants.{Fine}
 use Rattle.records.proofs.Tables.{none}
 use Rattle.records.proofs.RoundTrip.{Sound, reads-back, writes-back}
@@ -34,7 +34,7 @@ fit m ok =
     ⊎-elim
     (inside-fits 499 15000 z (omega arith) (omega arith))
     (zero-fits z)
-    (either (temperaturePresent m) (outsideZ (minus 500) (pos 15000) z) (outsideZ (pos 0) (pos 0) z) (none (aloneLines m) ok .1 .1 .1 .1 .1 .0))
+    (either (temperaturePresent m) (temperatureOutside z) (outsideZ (pos 0) (pos 0) z) (none (aloneLines m) ok .1 .1 .1 .1 .1 .0))
 
 same : (m : Minute) → firstOf (aloneLines m) ≡ Fine → made minuteLayout minute m ≡ m
 same m ok =

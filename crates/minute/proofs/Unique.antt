@@ -1,5 +1,5 @@
 -- Each call's contract leaves one result, and one state of a lent buffer.
-use mathlib.Core.Path.{_≡_, ap, sym, _∙_}
+use mathlib.Core.Path.{ap, sym, _∙_}
 use denote.Ref.{now}
 use Rattle.exact.specs.One.{OneResult, OneOutcome}
 use Rattle.records.specs.House.{written}

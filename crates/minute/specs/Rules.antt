@@ -4,11 +4,11 @@ use mathlib.Core.Bool.{Bool, _||_, _&&_, not}
 use mathlib.Core.List.{List, [], _∷_}
 use lib.Dec.{ltb, leb, eqb}
 use lib.IntN.{pos}
-use Rattle.exact.specs.Ranges.{above, outsideZ, minus}
+use Rattle.exact.specs.Ranges.{above, outsideZ}
+use Rattle.records.specs.Ranges.{temperatureOutside, flowOutside}
 use Rattle.records.specs.Tables.{Line, when}
 use Rattle.records.specs.declared.refusal.Refusal.the-variants.{Flags, Order, Flow, Composition, Methane, Temperature, Exhaust}
 use Rattle.minute.specs.declared.gas.Gas.{Gas}
-use Rattle.minute.specs.declared.Readings.{Readings}
 use Rattle.minute.specs.declared.Minute.{Minute}
 
 -- "bit 0 flame seen, bit 1 temperature present, bit 2 exhaust readings present"
@@ -31,7 +31,7 @@ flagsWrong m = above 7 (m .flags)
 
 -- "over 100,000"
 abbrev pub flowWrong : Minute → Bool
-flowWrong m = above 100000 (m .litres)
+flowWrong m = flowOutside (m .litres)
 
 -- the sum of the fractions
 abbrev pub total : Gas → ℕ
@@ -58,7 +58,7 @@ methaneWrong g =
 -- "present outside -500..15,000, or absent and not 0"
 abbrev pub temperatureWrong : Minute → Bool
 temperatureWrong m =
-    (temperaturePresent m && outsideZ (minus 500) (pos 15000) (m .temperature))
+    (temperaturePresent m && temperatureOutside (m .temperature))
     || (not (temperaturePresent m) && outsideZ (pos 0) (pos 0) (m .temperature))
 
 -- "present outside range, or absent and not both 0"

@@ -1,7 +1,7 @@
 -- Both round trips of a record in the house form, once for every kind.
 use Prim.Native.Nat.{ℕ, _+_, _-_, _≤_}
 use mathlib.Core.Path.{_≡_, refl, sym, ap, ap₂, _∙_}
-use mathlib.Core.Bool.{true, not, _||_}
+use mathlib.Core.Bool.{true, not}
 use mathlib.Core.List.{List, [], _∷_, _++_}
 use native.Mathlib.Omega.{arith}
 use borrow.Author.Tests.{eqb-true, eq-eqb, not-false}
@@ -18,12 +18,8 @@ use Rattle.records.specs.RoundTrip.{Kind, ReadsBack, WritesBack}
 use Rattle.records.specs.declared.refusal.Refusal.{Refusal}
 use Rattle.records.specs.declared.verdict.Verdict.{Verdict}
 use Rattle.records.specs.declared.verdict.Verdict.the-variants.{Fine, Refuse}
-use Rattle.records.proofs.Tables.{joined, both-fine, none}
+use Rattle.records.proofs.Tables.{joined, split, none}
 use Rattle.records.proofs.Reading.{by-fields}
-
--- two tables are fine only where both are
-split : (t u : List Line) → firstOf (t ++ u) ≡ Fine → (firstOf t ≡ Fine) × (firstOf u ≡ Fine)
-split t u e = both-fine (firstOf t) (firstOf u) (sym (joined t u) ∙ e)
 
 -- what a head that is fine says
 record Headed (n version : ℕ) (b : List ℕ) : Type 0 where

@@ -1,5 +1,5 @@
 -- Laws of tables of refusals.
-use mathlib.Core.Path.{_≡_, refl, sym}
+use mathlib.Core.Path.{_≡_, refl, sym, _∙_}
 use Prim.Native.Nat.{ℕ}
 use mathlib.Core.Bool.{true, false}
 use mathlib.Core.List.{List, [], _∷_, _++_}
@@ -32,10 +32,13 @@ joined (when false r ∷ t) u = joined t u
 fine-not : {r : Refusal} → Refuse r ≡ Fine → ⊥
 fine-not e = let z : _≡_ {A = ℕ} 0 1 = cc in omega arith
 
--- a verdict after another is fine only where both are
-pub both-fine : (v w : Verdict) → after v w ≡ Fine → (v ≡ Fine) × (w ≡ Fine)
+both-fine : (v w : Verdict) → after v w ≡ Fine → (v ≡ Fine) × (w ≡ Fine)
 both-fine Fine w e = (refl, e)
 both-fine (Refuse r) w e = absurd (fine-not e)
+
+-- two tables are fine only where both are
+pub split : (t u : List Line) → firstOf (t ++ u) ≡ Fine → (firstOf t ≡ Fine) × (firstOf u ≡ Fine)
+split t u e = both-fine (firstOf t) (firstOf u) (sym (joined t u) ∙ e)
 
 -- no line of the table matches
 abbrev pub NoneOf : List Line → Type 0

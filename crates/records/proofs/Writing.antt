@@ -1,5 +1,5 @@
 -- Writing, for any record: the buffer's table and then the fields', and each field put at its place.
-use Prim.Native.Nat.{ℕ, _+_, _-_, _/_, _%_}
+use Prim.Native.Nat.{ℕ, _-_, _/_, _%_}
 use mathlib.Core.Path.{_≡_, sym, ap₂, _∙_}
 use mathlib.Core.Bool.{true, not}
 use mathlib.Core.List.{List, [], _∷_, _++_}
@@ -15,7 +15,7 @@ use Rattle.records.specs.House.{houseForm, bufferLines}
 use Rattle.records.specs.declared.refusal.Refusal.the-variants.{Buffer}
 use Rattle.records.specs.declared.verdict.Verdict.{Verdict}
 use Rattle.records.specs.declared.verdict.Verdict.the-variants.{Fine}
-use Rattle.records.proofs.Tables.{chained, joined, both-fine, none}
+use Rattle.records.proofs.Tables.{chained, joined, split, none}
 
 module _ {S : Type 0} (n version : ℕ) (layout : Layout S) (s : S) where
   pub filled-record : (b : List ℕ) → gapless 3 layout n ≡ true → length b ≡ n
@@ -37,5 +37,5 @@ by-buffer n out lines b f v =
 -- a table that is fine had a buffer of the right size
 pub room : (n : ℕ) (out : List ℕ) (lines : List Line) → firstOf (bufferLines n out ++ lines) ≡ Fine → length out ≡ n
 room n out lines e =
-    let fine = both-fine (firstOf (bufferLines n out)) (firstOf lines) (sym (joined (bufferLines n out) lines) ∙ e) .0 in
+    let fine = split (bufferLines n out) lines e .0 in
     eqb-true (length out) n (not-false (eqb (length out) n) (none (bufferLines n out) fine .0))

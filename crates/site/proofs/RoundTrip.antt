@@ -4,20 +4,18 @@ use mathlib.Core.Path.{_≡_, refl}
 use mathlib.Core.Bool.{false, _||_}
 use mathlib.Core.List.{List}
 use native.Mathlib.Omega.{arith}
-use lib.IntN.{ℤ, pos, negsuc}
 use lib.Signed.{ltZ}
 use mir.Val.{SFits}
 use mir.ValLaws.{toZ-ofZ}
 use mir.Syntax.{w16}
 use Rattle.exact.specs.Bytes.{AreBytes}
-use Rattle.exact.specs.Ranges.{outsideZ, minus}
 use Rattle.exact.proofs.Bools.{or-false}
 use Rattle.exact.proofs.Layouts.{made, Holds}
 use Rattle.exact.proofs.Ranges.{inside-fits}
 use Rattle.exact.proofs.Spelling.{unsigned-signed}
+use Rattle.records.specs.Ranges.{temperatureOutside}
 use Rattle.records.specs.Tables.{firstOf}
 use Rattle.records.specs.RoundTrip.{ReadsBack, WritesBack}
-use Rattle.records.specs.declared.refusal.Refusal.{Refusal}
 use Rattle.records.specs.declared.verdict.Verdict.the-variants.{Fine}
 use Rattle.records.proofs.Tables.{none}
 use Rattle.records.proofs.RoundTrip.{Sound, reads-back, writes-back}
@@ -31,8 +29,8 @@ use Rattle.site.specs.declared.SiteRead.the-variants.{Fields, Refused}
 -- temperatures that are not refused fit their bytes
 fit : (t : Temperatures) → temperaturesWrong t ≡ false → SFits w16 (t .lowest) × SFits w16 (t .highest)
 fit t e =
-    let low = outsideZ (minus 500) (pos 15000) (t .lowest) in
-    let high = outsideZ (minus 500) (pos 15000) (t .highest) in
+    let low = temperatureOutside (t .lowest) in
+    let high = temperatureOutside (t .highest) in
     let both = or-false low high (or-false (low || high) (ltZ (t .highest) (t .lowest)) e .0) in (
       inside-fits 499 15000 (t .lowest) (omega arith) (omega arith) (both .0),
       inside-fits 499 15000 (t .highest) (omega arith) (omega arith) (both .1),

@@ -1,11 +1,11 @@
 -- Document 01, "Records" and "Numbers a caller gets back": the ranges of a site's fields, and its refusals 3 to 9 in their order.
-use Prim.Native.Nat.{ℕ, _*_}
+use Prim.Native.Nat.{_*_}
 use mathlib.Core.Bool.{Bool, _||_, _&&_, not}
 use mathlib.Core.List.{List, [], _∷_}
 use lib.Dec.{ltb, leb, eqb}
-use lib.IntN.{pos}
 use lib.Signed.{ltZ}
-use Rattle.exact.specs.Ranges.{above, outside, outsideZ, minus}
+use Rattle.exact.specs.Ranges.{above, outside}
+use Rattle.records.specs.Ranges.{temperatureOutside, flowOutside}
 use Rattle.records.specs.Tables.{Line, when}
 use Rattle.records.specs.declared.refusal.Refusal.the-variants.{Method, Year, Gwp, Size, Spec, Open, Schedule}
 use Rattle.site.specs.declared.Temperatures.{Temperatures}
@@ -34,12 +34,11 @@ sizeWrong s = above 100000 (s .height) || outside 1 100000 (s .diameter)
 
 -- "a temperature .. limit outside its range or reversed"
 abbrev pub temperaturesWrong : Temperatures → Bool
-temperaturesWrong t =
-    outsideZ (minus 500) (pos 15000) (t .lowest) || outsideZ (minus 500) (pos 15000) (t .highest) || ltZ (t .highest) (t .lowest)
+temperaturesWrong t = temperatureOutside (t .lowest) || temperatureOutside (t .highest) || ltZ (t .highest) (t .lowest)
 
 -- ".. or flow limit outside its range or reversed"
 abbrev pub flowsWrong : Flows → Bool
-flowsWrong f = above 100000 (f .lowest) || above 100000 (f .highest) || ltb (f .highest) (f .lowest)
+flowsWrong f = flowOutside (f .lowest) || flowOutside (f .highest) || ltb (f .highest) (f .lowest)
 
 -- "Height at most twice the diameter: open"
 abbrev pub isOpen : Site → Bool

@@ -9,11 +9,6 @@ use Rattle.minute.specs.declared.MinuteRead.the-variants.{Fields, Refuse
 use borrow.Author.Needs.{needs}
 use Rattle.minute.proofs.Minute.read.Statement.{statement}
 use Rattle.minute.proofs.Minute.read.Tie as tie
-use Rattle.minute.proofs.Minute.read.Reads as reads
-use Rattle.minute.proofs.Minute.read.Lts as lts
-use Rattle.records.proofs.head.Reads as head-reads
-use Rattle.minute.proofs.Minute.alone.Reads as alone-reads
-use Rattle.minute.proofs.read.minute_in.Reads as minute-in-reads
 
 -- the head's verdict decides, and then the fields'
 came : (v : tie.After-alone) {w : Verdict} → v .alone .result ≡ w → answered Fields Refused (v .before .minute-in .result) w ≡ readMinute (now (v .before .before .before .before .before .before .args .bytes))

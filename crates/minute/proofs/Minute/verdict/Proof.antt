@@ -3,16 +3,6 @@ use Rattle.records.proofs.Tables.{chained}
 use borrow.Author.Needs.{needs}
 use Rattle.minute.proofs.Minute.verdict.Statement.{statement}
 use Rattle.minute.proofs.Minute.verdict.Tie as tie
-use Rattle.minute.proofs.Minute.verdict.Reads as reads
-use Rattle.minute.proofs.Minute.verdict.Lts as lts
-use Rattle.minute.proofs.Minute.exhaust_wrong.Reads as exhaust-wrong-reads
-use Rattle.minute.proofs.Minute.flags_wrong.Reads as flags-wrong-reads
-use Rattle.minute.proofs.Minute.flow_wrong.Reads as flow-wrong-reads
-use Rattle.minute.proofs.Minute.has_gas.Reads as has-gas-reads
-use Rattle.minute.proofs.Minute.temperature_wrong.Reads as temperature-wrong-reads
-use Rattle.minute.proofs.gas.Gas.composition_wrong.Reads as composition-wrong-reads
-use Rattle.minute.proofs.gas.Gas.methane_wrong.Reads as methane-wrong-reads
-use Rattle.records.proofs.verdict.Verdict.also.Reads as also-reads
 
 has-gas-requires : tie.Need-has-gas-requires
 has-gas-requires c κs = search needs

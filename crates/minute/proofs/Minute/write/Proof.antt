@@ -6,12 +6,6 @@ use Rattle.minute.specs.Record.{writeMinute}
 use borrow.Author.Needs.{needs}
 use Rattle.minute.proofs.Minute.write.Statement.{statement}
 use Rattle.minute.proofs.Minute.write.Tie as tie
-use Rattle.minute.proofs.Minute.write.Reads as reads
-use Rattle.minute.proofs.Minute.write.Lts as lts
-use Rattle.records.proofs.verdict.Verdict.also.Reads as also-reads
-use Rattle.records.proofs.verdict.Verdict.then.Reads as then-reads
-use Rattle.minute.proofs.Minute.fill.Reads as fill-reads
-use Rattle.minute.proofs.Minute.alone.Reads as alone-reads
 
 also-requires : tie.Need-also-requires
 also-requires c κs = search needs

@@ -1,9 +1,6 @@
 use borrow.Author.Needs.{needs}
 use Rattle.minute.proofs.read.gas_in.Statement.{statement}
 use Rattle.minute.proofs.read.gas_in.Tie as tie
-use Rattle.minute.proofs.read.gas_in.Reads as reads
-use Rattle.minute.proofs.read.gas_in.Lts as lts
-use Rattle.records.proofs.u32_at.Reads as u32-at-reads
 
 u32-at-requires : tie.Need-u32-at-requires
 u32-at-requires c κs = search needs

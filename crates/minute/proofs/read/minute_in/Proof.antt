@@ -3,13 +3,6 @@ use mir.Syntax.{w16}
 use borrow.Author.Needs.{needs, sfits-of}
 use Rattle.minute.proofs.read.minute_in.Statement.{statement}
 use Rattle.minute.proofs.read.minute_in.Tie as tie
-use Rattle.minute.proofs.read.minute_in.Reads as reads
-use Rattle.minute.proofs.read.minute_in.Lts as lts
-use Rattle.minute.proofs.read.gas_in.Reads as gas-in-reads
-use Rattle.records.proofs.byte_at.Reads as byte-at-reads
-use Rattle.records.proofs.signed.Reads as signed-reads
-use Rattle.records.proofs.u16_at.Reads as u16-at-reads
-use Rattle.records.proofs.u32_at.Reads as u32-at-reads
 
 u32-at-requires : tie.Need-u32-at-requires
 u32-at-requires c κs = search needs

@@ -3,11 +3,6 @@ use Rattle.records.proofs.Tables.{chained}
 use borrow.Author.Needs.{needs}
 use Rattle.records.proofs.house.head.Statement.{statement}
 use Rattle.records.proofs.house.head.Tie as tie
-use Rattle.records.proofs.house.head.Reads as reads
-use Rattle.records.proofs.house.head.Lts as lts
-use Rattle.records.proofs.number.byte_at.Reads as byte-at-reads
-use Rattle.records.proofs.number.u16_at.Reads as u16-at-reads
-use Rattle.records.proofs.verdict.Verdict.also.Reads as also-reads
 
 u16-at-requires : tie.Need-u16-at-requires
 u16-at-requires c κs = search needs

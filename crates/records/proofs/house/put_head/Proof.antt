@@ -1,10 +1,6 @@
 use borrow.Author.Needs.{needs}
 use Rattle.records.proofs.house.put_head.Statement.{statement}
 use Rattle.records.proofs.house.put_head.Tie as tie
-use Rattle.records.proofs.house.put_head.Reads as reads
-use Rattle.records.proofs.house.put_head.Lts as lts
-use Rattle.records.proofs.number.put_byte.Reads as put-byte-reads
-use Rattle.records.proofs.number.put_u16.Reads as put-u16-reads
 
 put-u16-requires : tie.Need-put-u16-requires
 put-u16-requires c κs = search needs

@@ -5,8 +5,6 @@ use Rattle.exact.specs.Bytes.{put}
 use borrow.Author.Needs.{needs}
 use Rattle.records.proofs.number.put_byte.Statement.{statement}
 use Rattle.records.proofs.number.put_byte.Tie as tie
-use Rattle.records.proofs.number.put_byte.Reads as reads
-use Rattle.records.proofs.number.put_byte.Lts as lts
 
 slice-write-b : tie.Need-slice-write-b
 slice-write-b c = search needs

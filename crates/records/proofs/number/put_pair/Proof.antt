@@ -5,9 +5,6 @@ use Rattle.exact.specs.Bytes.{put}
 use borrow.Author.Needs.{needs}
 use Rattle.records.proofs.number.put_pair.Statement.{statement}
 use Rattle.records.proofs.number.put_pair.Tie as tie
-use Rattle.records.proofs.number.put_pair.Reads as reads
-use Rattle.records.proofs.number.put_pair.Lts as lts
-use Rattle.records.proofs.number.put_byte.Reads as put-byte-reads
 
 cast-put-byte : tie.Need-cast-put-byte
 cast-put-byte c = search needs

@@ -8,9 +8,6 @@ use Rattle.exact.specs.Bytes.{bytesOf, put}
 use borrow.Author.Needs.{needs}
 use Rattle.records.proofs.number.put_u32.Statement.{statement}
 use Rattle.records.proofs.number.put_u32.Tie as tie
-use Rattle.records.proofs.number.put_u32.Reads as reads
-use Rattle.records.proofs.number.put_u32.Lts as lts
-use Rattle.records.proofs.number.put_pair.Reads as put-pair-reads
 
 cast-put-pair : tie.Need-cast-put-pair
 cast-put-pair c = search needs

@@ -1,17 +1,14 @@
 use Prim.Native.Nat.{suc}
-use Prim.Native.Nat.{_-_, _<_, _≤_}
+use Prim.Native.Nat.{_-_}
 use native.Mathlib.Omega.{arith}
-use mathlib.Core.Path.{_≡_, ap, _∙_}
-use lib.IntN.{ℤ, pos, negsuc, _-ℤ_}
-use mir.Val.{toZ, ofZ, SFits}
-use mir.ValLaws.{toZ-ofZ, toZ-pos, toZ-neg}
+use mathlib.Core.Path.{_≡_, ap}
+use mir.Val.{toZ}
+use mir.ValLaws.{toZ-pos}
 use mir.Syntax.{w16}
-use Rattle.records.proofs.Complement.{below-zero, flipped, flipped-bits, plain, plain-bits}
+use Rattle.records.proofs.Complement.{below-zero}
 use borrow.Author.Needs.{needs}
 use Rattle.records.proofs.number.signed.Statement.{statement}
 use Rattle.records.proofs.number.signed.Tie as tie
-use Rattle.records.proofs.number.signed.Reads as reads
-use Rattle.records.proofs.number.signed.Lts as lts
 
 cast-result : tie.Need-cast-result
 cast-result c = search needs

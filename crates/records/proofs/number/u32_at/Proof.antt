@@ -3,10 +3,6 @@ use native.Mathlib.Nat.{add-assoc}
 use borrow.Author.Needs.{needs}
 use Rattle.records.proofs.number.u32_at.Statement.{statement}
 use Rattle.records.proofs.number.u32_at.Tie as tie
-use Rattle.records.proofs.number.u32_at.Reads as reads
-use Rattle.records.proofs.number.u32_at.Lts as lts
-use Rattle.records.proofs.number.pair_at.Reads as pair-at-reads
-use Rattle.records.proofs.number.wider.Reads as wider-reads
 
 pair-at-requires : tie.Need-pair-at-requires
 pair-at-requires c κs = search needs

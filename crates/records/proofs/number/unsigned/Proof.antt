@@ -1,17 +1,13 @@
-use Prim.Native.Nat.{ℕ, suc, _-_, _<_, _≤_}
 use native.Mathlib.Omega.{arith}
-use mathlib.Core.Path.{_≡_, ap, _∙_}
+use mathlib.Core.Path.{_≡_}
 use mathlib.Core.Bool.{true, false}
-use lib.IntN.{ℤ, pos, negsuc, _-ℤ_}
+use lib.IntN.{pos}
 use lib.Signed.{ltZ, mag}
-use mir.Val.{toZ, ofZ, SFits}
 use mir.ValLaws.{toZ-ofZ, toZ-pos, ofZ-fits}
 use mir.Syntax.{w16}
 use Rattle.records.proofs.Complement.{flipped, flipped-bits, plain, plain-bits}
 use Rattle.records.proofs.number.unsigned.Statement.{statement}
 use Rattle.records.proofs.number.unsigned.Tie as tie
-use Rattle.records.proofs.number.unsigned.Reads as reads
-use Rattle.records.proofs.number.unsigned.Lts as lts
 
 sub-result : tie.Need-sub-result
 sub-result c =

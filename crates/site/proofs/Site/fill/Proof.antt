@@ -8,13 +8,6 @@ use Rattle.site.specs.Record.{siteLayout, siteBytes}
 use borrow.Author.Needs.{needs, sfits-of}
 use Rattle.site.proofs.Site.fill.Statement.{statement}
 use Rattle.site.proofs.Site.fill.Tie as tie
-use Rattle.site.proofs.Site.fill.Reads as reads
-use Rattle.site.proofs.Site.fill.Lts as lts
-use Rattle.records.proofs.put_head.Reads as put-head-reads
-use Rattle.records.proofs.put_byte.Reads as put-byte-reads
-use Rattle.records.proofs.put_u16.Reads as put-u16-reads
-use Rattle.records.proofs.put_u32.Reads as put-u32-reads
-use Rattle.records.proofs.unsigned.Reads as unsigned-reads
 
 sub-put-head : tie.Need-sub-put-head
 sub-put-head c = search needs

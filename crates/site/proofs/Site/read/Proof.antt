@@ -9,11 +9,6 @@ use Rattle.site.specs.declared.SiteRead.the-variants.{Fields, Refused}
 use borrow.Author.Needs.{needs}
 use Rattle.site.proofs.Site.read.Statement.{statement}
 use Rattle.site.proofs.Site.read.Tie as tie
-use Rattle.site.proofs.Site.read.Reads as reads
-use Rattle.site.proofs.Site.read.Lts as lts
-use Rattle.records.proofs.head.Reads as head-reads
-use Rattle.site.proofs.Site.verdict.Reads as verdict-reads
-use Rattle.site.proofs.read.site_in.Reads as site-in-reads
 
 -- the head's verdict decides, and then the fields'
 came : (v : tie.After-verdict) {w : Verdict} → v .verdict .result ≡ w → answered Fields Refused (v .before .site-in .result) w ≡ readSite (now (v .before .before .before .before .before .before .args .bytes))

@@ -3,18 +3,6 @@ use Rattle.records.proofs.Tables.{chained}
 use borrow.Author.Needs.{needs}
 use Rattle.site.proofs.Site.verdict.Statement.{statement}
 use Rattle.site.proofs.Site.verdict.Tie as tie
-use Rattle.site.proofs.Site.verdict.Reads as reads
-use Rattle.site.proofs.Site.verdict.Lts as lts
-use Rattle.records.proofs.verdict.Verdict.also.Reads as also-reads
-use Rattle.site.proofs.Flows.wrong.Reads as Flows-wrong-reads
-use Rattle.site.proofs.Site.gwp_wrong.Reads as gwp-wrong-reads
-use Rattle.site.proofs.Site.measured.Reads as measured-reads
-use Rattle.site.proofs.Site.method_wrong.Reads as method-wrong-reads
-use Rattle.site.proofs.Site.open.Reads as open-reads
-use Rattle.site.proofs.Site.schedule_wrong.Reads as schedule-wrong-reads
-use Rattle.site.proofs.Site.size_wrong.Reads as size-wrong-reads
-use Rattle.site.proofs.Site.year_wrong.Reads as year-wrong-reads
-use Rattle.site.proofs.Temperatures.wrong.Reads as Temperatures-wrong-reads
 
 method-wrong-requires : tie.Need-method-wrong-requires
 method-wrong-requires c κs = search needs

@@ -6,12 +6,6 @@ use Rattle.site.specs.Record.{writeSite}
 use borrow.Author.Needs.{needs}
 use Rattle.site.proofs.Site.write.Statement.{statement}
 use Rattle.site.proofs.Site.write.Tie as tie
-use Rattle.site.proofs.Site.write.Reads as reads
-use Rattle.site.proofs.Site.write.Lts as lts
-use Rattle.records.proofs.verdict.Verdict.also.Reads as also-reads
-use Rattle.records.proofs.verdict.Verdict.then.Reads as then-reads
-use Rattle.site.proofs.Site.fill.Reads as fill-reads
-use Rattle.site.proofs.Site.verdict.Reads as verdict-reads
 
 also-requires : tie.Need-also-requires
 also-requires c κs = search needs

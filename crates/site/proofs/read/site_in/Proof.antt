@@ -3,12 +3,6 @@ use mir.Syntax.{w16}
 use borrow.Author.Needs.{needs, sfits-of}
 use Rattle.site.proofs.read.site_in.Statement.{statement}
 use Rattle.site.proofs.read.site_in.Tie as tie
-use Rattle.site.proofs.read.site_in.Reads as reads
-use Rattle.site.proofs.read.site_in.Lts as lts
-use Rattle.records.proofs.byte_at.Reads as byte-at-reads
-use Rattle.records.proofs.signed.Reads as signed-reads
-use Rattle.records.proofs.u16_at.Reads as u16-at-reads
-use Rattle.records.proofs.u32_at.Reads as u32-at-reads
 
 u16-at-requires : tie.Need-u16-at-requires
 u16-at-requires c κs = search needs

@@ -2,9 +2,6 @@ use Rattle.minute.specs.Rules.{compositionWrong}
 use borrow.Author.Needs.{needs}
 use Rattle.minute.proofs.gas.Gas.composition_wrong.Statement.{statement}
 use Rattle.minute.proofs.gas.Gas.composition_wrong.Tie as tie
-use Rattle.minute.proofs.gas.Gas.composition_wrong.Reads as reads
-use Rattle.minute.proofs.gas.Gas.composition_wrong.Lts as lts
-use Rattle.minute.proofs.gas.Gas.total.Reads as total-reads
 
 total-requires : tie.Need-total-requires
 total-requires c κs = search needs

@@ -1,8 +1,6 @@
 use borrow.Author.Needs.{needs}
 use Rattle.records.proofs.verdict.Verdict.then.Statement.{statement}
 use Rattle.records.proofs.verdict.Verdict.then.Tie as tie
-use Rattle.records.proofs.verdict.Verdict.then.Reads as reads
-use Rattle.records.proofs.verdict.Verdict.then.Lts as lts
 
 enum-known-self : tie.Need-enum-known-self
 enum-known-self c = search needs
