@@ -6,7 +6,7 @@ use crate::record::Record;
 use crate::say;
 use minute::Minute;
 use minute::MinuteRead;
-use records::Verdict;
+use refusals::Verdict;
 use site::Site;
 use site::SiteRead;
 

@@ -15,10 +15,10 @@ use Rattle.exact.proofs.Layouts.{made, Holds}
 use Rattle.exact.proofs.Ranges.{inside-fits, zero-fits}
 use Rattle.exact.proofs.Spelling.{unsigned-signed}
 use Rattle.records.specs.Ranges.{temperatureOutside}
-use Rattle.records.specs.Tables.{firstOf}
+use Rattle.refusals.specs.Tables.{firstOf}
 use Rattle.records.specs.RoundTrip.{ReadsBack, WritesBack}
-use Rattle.records.specs.declared.verdict.Verdict.the-variants.{Fine}
-use Rattle.records.proofs.Tables.{none}
+use Rattle.refusals.specs.declared.verdict.Verdict.the-variants.{Fine}
+use Rattle.refusals.proofs.Tables.{none}
 use Rattle.records.proofs.RoundTrip.{Sound, reads-back, writes-back}
 use Rattle.minute.specs.Rules.{temperaturePresent, minuteLines, aloneLines}
 use Rattle.minute.specs.Record.{minuteLayout, minute, minuteOf, minuteBytes, readMinute, writeMinute}

@@ -6,8 +6,8 @@ use lib.Dec.{ltb, leb, eqb}
 use lib.IntN.{pos}
 use Rattle.exact.specs.Ranges.{above, outsideZ}
 use Rattle.records.specs.Ranges.{temperatureOutside, flowOutside}
-use Rattle.records.specs.Tables.{Line, when}
-use Rattle.records.specs.declared.refusal.Refusal.the-variants.{Flags, Order, Flow, Composition, Methane, Temperature, Exhaust}
+use Rattle.refusals.specs.Tables.{Line, when}
+use Rattle.refusals.specs.declared.refusal.Refusal.the-variants.{Flags, Order, Flow, Composition, Methane, Temperature, Exhaust}
 use Rattle.minute.specs.declared.gas.Gas.{Gas}
 use Rattle.minute.specs.declared.Minute.{Minute}
 

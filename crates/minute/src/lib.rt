@@ -5,10 +5,10 @@ mod write;
 
 pub use gas::Gas;
 ghost use mathlib.Core.Path.{_≡_};
-ghost use Rattle.records.specs.Tables.{firstOf};
+ghost use Rattle.refusals.specs.Tables.{firstOf};
 ghost use Rattle.minute.specs.Rules.{hasGas, flagsWrong, flowWrong, temperatureWrong, exhaustWrong, minuteLines, aloneLines};
-use records::Refusal;
-use records::Verdict;
+use refusals::Refusal;
+use refusals::Verdict;
 
 // Of the exhaust: oxygen in ppm, methane in mg/m3.
 pub struct Readings {

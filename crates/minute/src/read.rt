@@ -5,7 +5,7 @@ use crate::Gas;
 use crate::Minute;
 use crate::MinuteRead;
 use crate::Readings;
-use records::Verdict;
+use refusals::Verdict;
 
 impl Minute {
     // The fields, or the first of the refusals 1, 2 and 12 to 18, with 13 for a minute that no year has.

@@ -4,8 +4,8 @@ ghost use lib.ListN.{length};
 ghost use Rattle.records.specs.House.{written};
 ghost use Rattle.minute.specs.Record.{minuteBytes, writeMinute};
 use crate::Minute;
-use records::Refusal;
-use records::Verdict;
+use refusals::Refusal;
+use refusals::Verdict;
 
 impl Minute {
     // Puts the record into the buffer, or answers 22 or the first of the refusals 12 to 18 and leaves the buffer as it was.

@@ -1,6 +1,5 @@
 pub mod Complement
 pub mod Reading
 pub mod RoundTrip
-pub mod Tables
 pub mod Unique
 pub mod Writing

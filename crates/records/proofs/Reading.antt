@@ -1,12 +1,12 @@
 -- Reading, for any record: the head's table and then the fields'.
 use mathlib.Core.Path.{_≡_, sym, ap, _∙_}
 use mathlib.Core.List.{List, _++_}
-use Rattle.records.specs.Tables.{Line, firstOf, after}
+use Rattle.refusals.specs.Tables.{Line, firstOf, after}
 use Rattle.records.specs.House.{answered}
-use Rattle.records.specs.declared.refusal.Refusal.{Refusal}
-use Rattle.records.specs.declared.verdict.Verdict.{Verdict}
-use Rattle.records.specs.declared.verdict.Verdict.the-variants.{Fine, Refuse}
-use Rattle.records.proofs.Tables.{joined}
+use Rattle.refusals.specs.declared.refusal.Refusal.{Refusal}
+use Rattle.refusals.specs.declared.verdict.Verdict.{Verdict}
+use Rattle.refusals.specs.declared.verdict.Verdict.the-variants.{Fine, Refuse}
+use Rattle.refusals.proofs.Tables.{joined}
 
 module _ {S R : Type 0} (fields : S → R) (refused : Refusal → R) (lines : S → List Line) (s : S) (head : List Line) where
   -- where the head refuses

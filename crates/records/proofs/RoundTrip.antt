@@ -12,13 +12,13 @@ use Rattle.exact.specs.Layout.{Layout, laid, Maker, readBy, gapless}
 use Rattle.exact.proofs.Bools.{or-false}
 use Rattle.exact.proofs.Spelling.{bytesOf-numberAt, cells-drop}
 use Rattle.exact.proofs.Layouts.{within, laid-length, made, read-laid, Holds, laid-held}
-use Rattle.records.specs.Tables.{Line, firstOf, after}
+use Rattle.refusals.specs.Tables.{Line, firstOf, after}
 use Rattle.records.specs.House.{houseForm, headLines, bufferLines, answered, written}
 use Rattle.records.specs.RoundTrip.{Kind, ReadsBack, WritesBack}
-use Rattle.records.specs.declared.refusal.Refusal.{Refusal}
-use Rattle.records.specs.declared.verdict.Verdict.{Verdict}
-use Rattle.records.specs.declared.verdict.Verdict.the-variants.{Fine, Refuse}
-use Rattle.records.proofs.Tables.{joined, split, none}
+use Rattle.refusals.specs.declared.refusal.Refusal.{Refusal}
+use Rattle.refusals.specs.declared.verdict.Verdict.{Verdict}
+use Rattle.refusals.specs.declared.verdict.Verdict.the-variants.{Fine, Refuse}
+use Rattle.refusals.proofs.Tables.{joined, split, none}
 use Rattle.records.proofs.Reading.{by-fields}
 
 -- what a head that is fine says

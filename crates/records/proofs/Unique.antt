@@ -2,9 +2,6 @@
 use mathlib.Core.Path.{refl, sym, _∙_}
 use denote.Ref.{now}
 use Rattle.exact.specs.One.{OneResult, OneOutcome}
-use Rattle.records.proofs.refusal.Refusal.number.Reads as number
-use Rattle.records.proofs.verdict.Verdict.also.Reads as also
-use Rattle.records.proofs.verdict.Verdict.then.Reads as then
 use Rattle.records.proofs.number.byte_at.Reads as byte-at
 use Rattle.records.proofs.number.u16_at.Reads as u16-at
 use Rattle.records.proofs.number.u32_at.Reads as u32-at
@@ -15,15 +12,6 @@ use Rattle.records.proofs.number.signed.Reads as signed
 use Rattle.records.proofs.number.unsigned.Reads as unsigned
 use Rattle.records.proofs.house.head.Reads as head
 use Rattle.records.proofs.house.put_head.Reads as put-head
-
-pub number-one : (κs : _) (a : _) → OneResult (number.Learnt κs a)
-number-one κs a x y e f p q = p ∙ sym q
-
-pub also-one : (κs : _) (a : _) → OneResult (also.Learnt κs a)
-also-one κs a x y e f p q = p ∙ sym q
-
-pub then-one : (κs : _) (a : _) → OneResult (then.Learnt κs a)
-then-one κs a x y e f p q = p ∙ sym q
 
 pub byte-at-one : (κs : _) (a : _) → OneResult (byte-at.Learnt κs a)
 byte-at-one κs a x y e f p q = p ∙ sym q

@@ -10,12 +10,12 @@ use lib.ListN.{length}
 use Rattle.exact.specs.Bytes.{bytesOf, put}
 use Rattle.exact.specs.Layout.{Layout, laid, gapless}
 use Rattle.exact.proofs.Layouts.{within, filled, filled-laid}
-use Rattle.records.specs.Tables.{Line, firstOf, also, after}
+use Rattle.refusals.specs.Tables.{Line, firstOf, also, after}
 use Rattle.records.specs.House.{houseForm, bufferLines}
-use Rattle.records.specs.declared.refusal.Refusal.the-variants.{Buffer}
-use Rattle.records.specs.declared.verdict.Verdict.{Verdict}
-use Rattle.records.specs.declared.verdict.Verdict.the-variants.{Fine}
-use Rattle.records.proofs.Tables.{chained, joined, split, none}
+use Rattle.refusals.specs.declared.refusal.Refusal.the-variants.{Buffer}
+use Rattle.refusals.specs.declared.verdict.Verdict.{Verdict}
+use Rattle.refusals.specs.declared.verdict.Verdict.the-variants.{Fine}
+use Rattle.refusals.proofs.Tables.{chained, joined, split, none}
 
 module _ {S : Type 0} (n version : ℕ) (layout : Layout S) (s : S) where
   pub filled-record : (b : List ℕ) → gapless 3 layout n ≡ true → length b ≡ n

@@ -5,11 +5,11 @@ use mathlib.Core.List.{List, [], _∷_, _++_}
 use lib.ListN.{length}
 use lib.Dec.{eqb}
 use Rattle.exact.specs.Bytes.{byteAt, numberAt, bytesOf}
-use Rattle.records.specs.Tables.{Line, when}
-use Rattle.records.specs.declared.refusal.Refusal.{Refusal}
-use Rattle.records.specs.declared.refusal.Refusal.the-variants.{Length, Version, Buffer}
-use Rattle.records.specs.declared.verdict.Verdict.{Verdict}
-use Rattle.records.specs.declared.verdict.Verdict.the-variants.{Fine, Refuse}
+use Rattle.refusals.specs.Tables.{Line, when}
+use Rattle.refusals.specs.declared.refusal.Refusal.{Refusal}
+use Rattle.refusals.specs.declared.refusal.Refusal.the-variants.{Length, Version, Buffer}
+use Rattle.refusals.specs.declared.verdict.Verdict.{Verdict}
+use Rattle.refusals.specs.declared.verdict.Verdict.the-variants.{Fine, Refuse}
 
 -- a record of n bytes: "a two-byte length first (counting the bytes after it), big-endian, then one version byte", then the fields
 abbrev pub houseForm : ℕ → ℕ → List ℕ → List ℕ

@@ -1,5 +1,3 @@
 pub mod House
 pub mod Ranges
-pub mod Refusals
 pub mod RoundTrip
-pub mod Tables

@@ -5,8 +5,8 @@ use mathlib.Core.List.{List}
 use lib.ListN.{length}
 use Rattle.exact.specs.Bytes.{AreBytes}
 use Rattle.records.specs.House.{written}
-use Rattle.records.specs.declared.verdict.Verdict.{Verdict}
-use Rattle.records.specs.declared.verdict.Verdict.the-variants.{Fine}
+use Rattle.refusals.specs.declared.verdict.Verdict.{Verdict}
+use Rattle.refusals.specs.declared.verdict.Verdict.the-variants.{Fine}
 
 -- a kind of record: its fields, what reading it answers, its size, and its calls
 pub record Kind : Type 1 where

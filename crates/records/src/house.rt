@@ -2,14 +2,14 @@
 ghost use mathlib.Core.Path.{_≡_};
 ghost use mathlib.Core.List.{[], _∷_};
 ghost use Rattle.exact.specs.Bytes.{bytesOf, put};
-ghost use Rattle.records.specs.Tables.{firstOf};
+ghost use Rattle.refusals.specs.Tables.{firstOf};
 ghost use Rattle.records.specs.House.{headLines};
 use crate::number::byte_at;
 use crate::number::put_byte;
 use crate::number::put_u16;
 use crate::number::u16_at;
-use crate::refusal::Refusal;
-use crate::verdict::Verdict;
+use refusals::Refusal;
+use refusals::Verdict;
 
 // The first of the refusals 1 and 2 of bytes that should be a record of so many bytes and of that version.
 pub fn head(b: &[u8], size: usize, version: u8) -> Verdict

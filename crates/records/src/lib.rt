@@ -1,8 +1,6 @@
-// What every record shares: the refusals, numbers in bytes, and the house form.
+// What every record shares: numbers in bytes, and the house form.
 mod house;
 mod number;
-mod refusal;
-mod verdict;
 
 pub use house::head;
 pub use house::put_head;
@@ -14,5 +12,3 @@ pub use number::signed;
 pub use number::u16_at;
 pub use number::u32_at;
 pub use number::unsigned;
-pub use refusal::Refusal;
-pub use verdict::Verdict;

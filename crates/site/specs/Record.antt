@@ -3,9 +3,9 @@ use Prim.Native.Nat.{ℕ}
 use mathlib.Core.List.{List, [], _∷_, _++_}
 use Rattle.exact.specs.Bytes.{signed, unsigned}
 use Rattle.exact.specs.Layout.{Layout, bytes, laid, Maker, readBy}
-use Rattle.records.specs.Tables.{firstOf}
+use Rattle.refusals.specs.Tables.{firstOf}
 use Rattle.records.specs.House.{houseForm, headLines, bufferLines, answered}
-use Rattle.records.specs.declared.verdict.Verdict.{Verdict}
+use Rattle.refusals.specs.declared.verdict.Verdict.{Verdict}
 use Rattle.site.specs.Rules.{siteLines}
 use Rattle.site.specs.declared.Site.{Site}
 use Rattle.site.specs.declared.SiteRead.{SiteRead}

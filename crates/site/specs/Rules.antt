@@ -6,8 +6,8 @@ use lib.Dec.{ltb, leb, eqb}
 use lib.Signed.{ltZ}
 use Rattle.exact.specs.Ranges.{above, outside}
 use Rattle.records.specs.Ranges.{temperatureOutside, flowOutside}
-use Rattle.records.specs.Tables.{Line, when}
-use Rattle.records.specs.declared.refusal.Refusal.the-variants.{Method, Year, Gwp, Size, Spec, Open, Schedule}
+use Rattle.refusals.specs.Tables.{Line, when}
+use Rattle.refusals.specs.declared.refusal.Refusal.the-variants.{Method, Year, Gwp, Size, Spec, Open, Schedule}
 use Rattle.site.specs.declared.Temperatures.{Temperatures}
 use Rattle.site.specs.declared.Flows.{Flows}
 use Rattle.site.specs.declared.Site.{Site}

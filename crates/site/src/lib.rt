@@ -3,10 +3,10 @@ mod read;
 mod write;
 
 ghost use mathlib.Core.Path.{_≡_};
-ghost use Rattle.records.specs.Tables.{firstOf};
+ghost use Rattle.refusals.specs.Tables.{firstOf};
 ghost use Rattle.site.specs.Rules.{methodWrong, yearWrong, gwpWrong, sizeWrong, temperaturesWrong, flowsWrong, isMeasured, isOpen, scheduleWrong, siteLines};
-use records::Refusal;
-use records::Verdict;
+use refusals::Refusal;
+use refusals::Verdict;
 
 // Tenths of a degree Celsius.
 pub struct Temperatures {

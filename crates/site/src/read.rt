@@ -5,7 +5,7 @@ use crate::Flows;
 use crate::Site;
 use crate::SiteRead;
 use crate::Temperatures;
-use records::Verdict;
+use refusals::Verdict;
 
 impl Site {
     // The fields, or the first of the refusals 1 to 9.

@@ -4,8 +4,8 @@ ghost use lib.ListN.{length};
 ghost use Rattle.records.specs.House.{written};
 ghost use Rattle.site.specs.Record.{siteBytes, writeSite};
 use crate::Site;
-use records::Refusal;
-use records::Verdict;
+use refusals::Refusal;
+use refusals::Verdict;
 
 impl Site {
     // Puts the record into the buffer, or answers 22 or the first of the refusals 3 to 9 and leaves the buffer as it was.

@@ -9,60 +9,6 @@ use borrow.Author.Needs.{needs, sfits-of}
 use Rattle.minute.proofs.Minute.fill.Statement.{statement}
 use Rattle.minute.proofs.Minute.fill.Tie as tie
 
-sub-put-head : tie.Need-sub-put-head
-sub-put-head c = search needs
-
-cast-put-head : tie.Need-cast-put-head
-cast-put-head c = search needs
-
-put-head-requires : tie.Need-put-head-requires
-put-head-requires c κs = search needs
-
-put-u32-requires : tie.Need-put-u32-requires
-put-u32-requires c κs = search needs
-
-put-byte-requires : tie.Need-put-byte-requires
-put-byte-requires c κs = search needs
-
-unsigned-requires : tie.Need-unsigned-requires
-unsigned-requires c κs = search needs
-
-put-u16-requires : tie.Need-put-u16-requires
-put-u16-requires c κs = search needs
-
-put-u32-requires-2 : tie.Need-put-u32-requires-2
-put-u32-requires-2 c κs = search needs
-
-put-u32-requires-3 : tie.Need-put-u32-requires-3
-put-u32-requires-3 c κs = search needs
-
-put-u32-requires-4 : tie.Need-put-u32-requires-4
-put-u32-requires-4 c κs = search needs
-
-put-u32-requires-5 : tie.Need-put-u32-requires-5
-put-u32-requires-5 c κs = search needs
-
-put-u32-requires-6 : tie.Need-put-u32-requires-6
-put-u32-requires-6 c κs = search needs
-
-put-u32-requires-7 : tie.Need-put-u32-requires-7
-put-u32-requires-7 c κs = search needs
-
-put-u32-requires-8 : tie.Need-put-u32-requires-8
-put-u32-requires-8 c κs = search needs
-
-put-u32-requires-9 : tie.Need-put-u32-requires-9
-put-u32-requires-9 c κs = search needs
-
-put-u32-requires-10 : tie.Need-put-u32-requires-10
-put-u32-requires-10 c κs = search needs
-
-put-u32-requires-11 : tie.Need-put-u32-requires-11
-put-u32-requires-11 c κs = search needs
-
-put-u32-requires-12 : tie.Need-put-u32-requires-12
-put-u32-requires-12 c κs = search needs
-
 -- where the function begins
 abbrev start : tie.After-slice-known16 → tie.Start
 start c =
@@ -125,23 +71,23 @@ pub fill-spec : {M : Type 1} → statement M
 fill-spec =
     tie.close
     (tie.spec
-    sub-put-head
-    cast-put-head
-    put-head-requires
-    put-u32-requires
-    put-byte-requires
-    unsigned-requires
-    put-u16-requires
-    put-u32-requires-2
-    put-u32-requires-3
-    put-u32-requires-4
-    put-u32-requires-5
-    put-u32-requires-6
-    put-u32-requires-7
-    put-u32-requires-8
-    put-u32-requires-9
-    put-u32-requires-10
-    put-u32-requires-11
-    put-u32-requires-12
+    (search needs)
+    (search needs)
+    (search needs)
+    (search needs)
+    (search needs)
+    (search needs)
+    (search needs)
+    (search needs)
+    (search needs)
+    (search needs)
+    (search needs)
+    (search needs)
+    (search needs)
+    (search needs)
+    (search needs)
+    (search needs)
+    (search needs)
+    (search needs)
     same-length
     returns)

@@ -1,7 +1,7 @@
 use mathlib.Core.Path.{_≡_, sym, _∙_}
 use denote.Ref.{now}
 use Rattle.records.specs.House.{headLines, answered}
-use Rattle.records.specs.declared.verdict.Verdict.{Verdict}
+use Rattle.refusals.specs.declared.verdict.Verdict.{Verdict}
 use Rattle.records.proofs.Reading.{by-head, by-fields}
 use Rattle.minute.specs.Rules.{aloneLines}
 use Rattle.minute.specs.Record.{minuteOf, readMinute}
@@ -21,27 +21,6 @@ came v {w} e =
     (v .before .minute-in .ensures)
     (sym e ∙ v .alone .ensures)
 
-head-requires : tie.Need-head-requires
-head-requires c κs = search needs
-
-enum-known-r : tie.Need-enum-known-r
-enum-known-r c = search needs
-
-enum-told : tie.Need-enum-told
-enum-told c = search needs
-
-minute-in-requires : tie.Need-minute-in-requires
-minute-in-requires c κs = search needs
-
-alone-requires : tie.Need-alone-requires
-alone-requires c κs = search needs
-
-enum-told-2 : tie.Need-enum-told-2
-enum-told-2 c = search needs
-
-enum-known-r-2 : tie.Need-enum-known-r-2
-enum-known-r-2 c = search needs
-
 returns : tie.Need-returns
 unfolding readMinute
 returns c =
@@ -59,13 +38,13 @@ pub read-spec : {M : Type 1} → statement M
 read-spec =
     tie.close
     (tie.spec
-    head-requires
-    enum-known-r
-    enum-told
-    minute-in-requires
-    alone-requires
-    enum-told-2
-    enum-known-r-2
+    (search needs)
+    (search needs)
+    (search needs)
+    (search needs)
+    (search needs)
+    (search needs)
+    (search needs)
     returns
     returns-2
     returns-3)

@@ -2,30 +2,6 @@ use borrow.Author.Needs.{needs}
 use Rattle.minute.proofs.read.gas_in.Statement.{statement}
 use Rattle.minute.proofs.read.gas_in.Tie as tie
 
-u32-at-requires : tie.Need-u32-at-requires
-u32-at-requires c κs = search needs
-
-u32-at-requires-2 : tie.Need-u32-at-requires-2
-u32-at-requires-2 c κs = search needs
-
-u32-at-requires-3 : tie.Need-u32-at-requires-3
-u32-at-requires-3 c κs = search needs
-
-u32-at-requires-4 : tie.Need-u32-at-requires-4
-u32-at-requires-4 c κs = search needs
-
-u32-at-requires-5 : tie.Need-u32-at-requires-5
-u32-at-requires-5 c κs = search needs
-
-u32-at-requires-6 : tie.Need-u32-at-requires-6
-u32-at-requires-6 c κs = search needs
-
-u32-at-requires-7 : tie.Need-u32-at-requires-7
-u32-at-requires-7 c κs = search needs
-
-u32-at-requires-8 : tie.Need-u32-at-requires-8
-u32-at-requires-8 c κs = search needs
-
 returns : tie.Need-returns
 returns c =
     let p = c .before .before .before .before in
@@ -44,12 +20,12 @@ pub gas-in-spec : {M : Type 1} → statement M
 gas-in-spec =
     tie.close
     (tie.spec
-    u32-at-requires
-    u32-at-requires-2
-    u32-at-requires-3
-    u32-at-requires-4
-    u32-at-requires-5
-    u32-at-requires-6
-    u32-at-requires-7
-    u32-at-requires-8
+    (search needs)
+    (search needs)
+    (search needs)
+    (search needs)
+    (search needs)
+    (search needs)
+    (search needs)
+    (search needs)
     returns)

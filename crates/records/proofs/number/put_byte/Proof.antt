@@ -6,12 +6,6 @@ use borrow.Author.Needs.{needs}
 use Rattle.records.proofs.number.put_byte.Statement.{statement}
 use Rattle.records.proofs.number.put_byte.Tie as tie
 
-slice-write-b : tie.Need-slice-write-b
-slice-write-b c = search needs
-
-same-length : tie.Need-same-length
-same-length c = search needs
-
 returns : tie.Need-returns
 unfolding put
 returns c = refl
@@ -23,4 +17,4 @@ returns-2 c =
     sym (set-out (now (a .b)) (a .k) (a .x) (c .if1 .left))
 
 pub put-byte-spec : {M : Type 1} → statement M
-put-byte-spec = tie.close (tie.spec slice-write-b same-length returns returns-2)
+put-byte-spec = tie.close (tie.spec (search needs) (search needs) returns returns-2)

@@ -9,24 +9,6 @@ use borrow.Author.Needs.{needs}
 use Rattle.records.proofs.number.put_u32.Statement.{statement}
 use Rattle.records.proofs.number.put_u32.Tie as tie
 
-cast-put-pair : tie.Need-cast-put-pair
-cast-put-pair c = search needs
-
-put-pair-requires : tie.Need-put-pair-requires
-put-pair-requires c κs = search needs
-
-add-put-pair : tie.Need-add-put-pair
-add-put-pair c = search needs
-
-cast-put-pair-2 : tie.Need-cast-put-pair-2
-cast-put-pair-2 c = search needs
-
-put-pair-requires-2 : tie.Need-put-pair-requires-2
-put-pair-requires-2 c κs = search needs
-
-same-length : tie.Need-same-length
-same-length c = search needs
-
 -- the bytes of the halves are those of the whole
 halves : (b : List ℕ) (k x : ℕ) → put (put b k (bytesOf 2 (x / 65536))) (k + 2) (bytesOf 2 (x % 65536)) ≡ put b k (bytesOf 4 x)
 unfolding put
@@ -44,18 +26,18 @@ returns c =
     let p = c .before .before in
     let q = p .before .before .before .before in
     let a = q .before .before .before .args in
-    p .put-pair2 .ensures
-    ∙ ap (λ (b : List ℕ). put b (a .k + 2) (bytesOf 2 (a .x % 65536))) (q .put-pair .ensures)
+    p .put-u162 .ensures
+    ∙ ap (λ (b : List ℕ). put b (a .k + 2) (bytesOf 2 (a .x % 65536))) (q .put-u16 .ensures)
     ∙ halves (now (a .b)) (a .k) (a .x)
 
 pub put-u32-spec : {M : Type 1} → statement M
 put-u32-spec =
     tie.close
     (tie.spec
-    cast-put-pair
-    put-pair-requires
-    add-put-pair
-    cast-put-pair-2
-    put-pair-requires-2
-    same-length
+    (search needs)
+    (search needs)
+    (search needs)
+    (search needs)
+    (search needs)
+    (search needs)
     returns)

@@ -10,22 +10,10 @@ use borrow.Author.Needs.{needs}
 use Rattle.records.proofs.number.signed.Statement.{statement}
 use Rattle.records.proofs.number.signed.Tie as tie
 
-cast-result : tie.Need-cast-result
-cast-result c = search needs
-
-sub-result : tie.Need-sub-result
-sub-result c = search needs
-
-cast-result-2 : tie.Need-cast-result-2
-cast-result-2 c = search needs
-
 sub-result-2 : tie.Need-sub-result-2
 sub-result-2 c =
     let v = c .before .args .x in
     rw (toZ-pos w16 (65535 - v) (omega arith), below-zero (65535 - v)) (record { sfits = omega arith })
-
-returns : tie.Need-returns
-returns c = search needs
 
 returns-2 : tie.Need-returns-2
 returns-2 c =
@@ -35,4 +23,4 @@ returns-2 c =
 
 pub signed-spec : {M : Type 1} → statement M
 signed-spec =
-    tie.close (tie.spec cast-result sub-result cast-result-2 sub-result-2 returns returns-2)
+    tie.close (tie.spec (search needs) (search needs) (search needs) sub-result-2 (search needs) returns-2)

@@ -1,56 +1,8 @@
 use Rattle.site.specs.Rules.{siteLines}
-use Rattle.records.proofs.Tables.{chained}
+use Rattle.refusals.proofs.Tables.{chained}
 use borrow.Author.Needs.{needs}
 use Rattle.site.proofs.Site.verdict.Statement.{statement}
 use Rattle.site.proofs.Site.verdict.Tie as tie
-
-method-wrong-requires : tie.Need-method-wrong-requires
-method-wrong-requires c κs = search needs
-
-also-requires : tie.Need-also-requires
-also-requires c κs = search needs
-
-year-wrong-requires : tie.Need-year-wrong-requires
-year-wrong-requires c κs = search needs
-
-also-requires-2 : tie.Need-also-requires-2
-also-requires-2 c κs = search needs
-
-gwp-wrong-requires : tie.Need-gwp-wrong-requires
-gwp-wrong-requires c κs = search needs
-
-also-requires-3 : tie.Need-also-requires-3
-also-requires-3 c κs = search needs
-
-size-wrong-requires : tie.Need-size-wrong-requires
-size-wrong-requires c κs = search needs
-
-also-requires-4 : tie.Need-also-requires-4
-also-requires-4 c κs = search needs
-
-wrong-requires : tie.Need-wrong-requires
-wrong-requires c κs = search needs
-
-wrong-requires-2 : tie.Need-wrong-requires-2
-wrong-requires-2 c κs = search needs
-
-also-requires-5 : tie.Need-also-requires-5
-also-requires-5 c κs = search needs
-
-measured-requires : tie.Need-measured-requires
-measured-requires c κs = search needs
-
-open-requires : tie.Need-open-requires
-open-requires c κs = search needs
-
-also-requires-6 : tie.Need-also-requires-6
-also-requires-6 c κs = search needs
-
-schedule-wrong-requires : tie.Need-schedule-wrong-requires
-schedule-wrong-requires c κs = search needs
-
-also-requires-7 : tie.Need-also-requires-7
-also-requires-7 c κs = search needs
 
 returns : tie.Need-returns
 unfolding siteLines
@@ -85,20 +37,20 @@ pub verdict-spec : {M : Type 1} → statement M
 verdict-spec =
     tie.close
     (tie.spec
-    method-wrong-requires
-    also-requires
-    year-wrong-requires
-    also-requires-2
-    gwp-wrong-requires
-    also-requires-3
-    size-wrong-requires
-    also-requires-4
-    wrong-requires
-    wrong-requires-2
-    also-requires-5
-    measured-requires
-    open-requires
-    also-requires-6
-    schedule-wrong-requires
-    also-requires-7
+    (search needs)
+    (search needs)
+    (search needs)
+    (search needs)
+    (search needs)
+    (search needs)
+    (search needs)
+    (search needs)
+    (search needs)
+    (search needs)
+    (search needs)
+    (search needs)
+    (search needs)
+    (search needs)
+    (search needs)
+    (search needs)
     returns)

@@ -7,21 +7,6 @@ use borrow.Author.Needs.{needs}
 use Rattle.site.proofs.Site.write.Statement.{statement}
 use Rattle.site.proofs.Site.write.Tie as tie
 
-also-requires : tie.Need-also-requires
-also-requires c κs = search needs
-
-verdict-requires : tie.Need-verdict-requires
-verdict-requires c κs = search needs
-
-then-requires : tie.Need-then-requires
-then-requires c κs = search needs
-
-enum-known-verdict : tie.Need-enum-known-verdict
-enum-known-verdict c = search needs
-
-enum-told : tie.Need-enum-told
-enum-told c = search needs
-
 -- the verdict is the table's
 decided : (t : tie.After-then) → t .then .result ≡ writeSite (t .before .before .before .before .args .self) (now (t .before .before .before .before .args .out))
 unfolding writeSite
@@ -39,9 +24,6 @@ fill-requires c κs =
 returns : tie.Need-returns
 returns c = (sym (c .before .verdict2 .given .1) ∙ decided (c .before .before .before), refl)
 
-same-length : tie.Need-same-length
-same-length c = search needs
-
 returns-2 : tie.Need-returns-2
 returns-2 c =
     let p = c .before .before in
@@ -52,12 +34,12 @@ pub write-spec : {M : Type 1} → statement M
 write-spec =
     tie.close
     (tie.spec
-    also-requires
-    verdict-requires
-    then-requires
-    enum-known-verdict
-    enum-told
+    (search needs)
+    (search needs)
+    (search needs)
+    (search needs)
+    (search needs)
     fill-requires
     returns
-    same-length
+    (search needs)
     returns-2)

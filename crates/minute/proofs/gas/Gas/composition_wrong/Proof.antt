@@ -3,15 +3,9 @@ use borrow.Author.Needs.{needs}
 use Rattle.minute.proofs.gas.Gas.composition_wrong.Statement.{statement}
 use Rattle.minute.proofs.gas.Gas.composition_wrong.Tie as tie
 
-total-requires : tie.Need-total-requires
-total-requires c κs = search needs
-
-cast-result : tie.Need-cast-result
-cast-result c = search needs
-
 returns : tie.Need-returns
 unfolding compositionWrong
 returns c = rw (c .total .ensures)
 
 pub composition-wrong-spec : {M : Type 1} → statement M
-composition-wrong-spec = tie.close (tie.spec total-requires cast-result returns)
+composition-wrong-spec = tie.close (tie.spec (search needs) (search needs) returns)

@@ -4,10 +4,10 @@ use Prim.Native.Nat.{ℕ}
 use mathlib.Core.Bool.{true, false}
 use mathlib.Core.List.{List, [], _∷_, _++_}
 use native.Mathlib.Omega.{arith}
-use Rattle.records.specs.Tables.{Line, when, firstOf, also, after}
-use Rattle.records.specs.declared.refusal.Refusal.{Refusal}
-use Rattle.records.specs.declared.verdict.Verdict.{Verdict}
-use Rattle.records.specs.declared.verdict.Verdict.the-variants.{Fine, Refuse}
+use Rattle.refusals.specs.Tables.{Line, when, firstOf, also, after}
+use Rattle.refusals.specs.declared.refusal.Refusal.{Refusal}
+use Rattle.refusals.specs.declared.verdict.Verdict.{Verdict}
+use Rattle.refusals.specs.declared.verdict.Verdict.the-variants.{Fine, Refuse}
 
 -- the lines one after the other, from a verdict on, as `Verdict::also` takes them
 abbrev pub chain : Verdict → List Line → Verdict

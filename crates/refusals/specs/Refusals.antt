@@ -1,7 +1,7 @@
 -- Document 01, "Numbers a caller gets back": the number of each name.
 use Prim.Native.Nat.{ℕ}
-use Rattle.records.specs.declared.refusal.Refusal.{Refusal}
-use Rattle.records.specs.declared.refusal.Refusal.the-variants.{Length, Version, Method, Year, Gwp, Size, Spec, Open, Schedule, List, Full, Flags, Order, Flow, Composition, Methane, Temperature, Exhaust, Oxygen, Incomplete, Day, Buffer}
+use Rattle.refusals.specs.declared.refusal.Refusal.{Refusal}
+use Rattle.refusals.specs.declared.refusal.Refusal.the-variants.{Length, Version, Method, Year, Gwp, Size, Spec, Open, Schedule, List, Full, Flags, Order, Flow, Composition, Methane, Temperature, Exhaust, Oxygen, Incomplete, Day, Buffer}
 
 abbrev pub numberOf : Refusal → ℕ
 numberOf Length = 1

@@ -1,9 +1,9 @@
 -- A table of refusals: "First match decides, in the order listed for each call".
 use mathlib.Core.Bool.{Bool, true, false}
 use mathlib.Core.List.{List, [], _∷_}
-use Rattle.records.specs.declared.refusal.Refusal.{Refusal}
-use Rattle.records.specs.declared.verdict.Verdict.{Verdict}
-use Rattle.records.specs.declared.verdict.Verdict.the-variants.{Fine, Refuse}
+use Rattle.refusals.specs.declared.refusal.Refusal.{Refusal}
+use Rattle.refusals.specs.declared.verdict.Verdict.{Verdict}
+use Rattle.refusals.specs.declared.verdict.Verdict.the-variants.{Fine, Refuse}
 
 -- a line of the table: a refusal, and when it is given
 pub data Line : Type 0 where

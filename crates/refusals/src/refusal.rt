@@ -1,6 +1,6 @@
 // Why a call refuses: document 01, "Numbers a caller gets back".
 ghost use mathlib.Core.Path.{_≡_};
-ghost use Rattle.records.specs.Refusals.{numberOf};
+ghost use Rattle.refusals.specs.Refusals.{numberOf};
 
 pub enum Refusal {
     Length,

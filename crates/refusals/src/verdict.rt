@@ -1,6 +1,6 @@
 // What a row of tests comes to: the first refusal, or nothing to refuse.
 ghost use mathlib.Core.Path.{_≡_};
-ghost use Rattle.records.specs.Tables.{also, after};
+ghost use Rattle.refusals.specs.Tables.{also, after};
 use crate::refusal::Refusal;
 
 pub enum Verdict {
