@@ -1,8 +1,9 @@
 // Writing a minute record into any buffer.
 ghost use mathlib.Core.Path.{_≡_};
-ghost use lib.ListN.{length};
+ghost use lib.ListN.{length, take, drop};
+ghost use Rattle.exact.specs.Layout.{filled};
 ghost use Rattle.records.specs.House.{written};
-ghost use Rattle.minute.specs.Record.{minuteBytes, writeMinute};
+ghost use Rattle.minute.specs.Record.{minuteLayout, minuteBytes, writeMinute};
 use crate::Minute;
 use refusals::Refusal;
 use refusals::Verdict;
@@ -28,13 +29,19 @@ impl Minute {
         requires { ⌜ length (now out) ≡ 54 ⌝ }
         ensures { λ _. ⌜ now (out .exit) ≡ minuteBytes self ⌝ }
     {
-        let gas = self.gas;
-        let exhaust = self.exhaust;
         records::put_head(out, (Minute::BYTES - 2) as u16, Minute::VERSION);
         records::put_u32(out, 3, self.number);
         records::put_byte(out, 7, self.flags);
         records::put_u16(out, 8, records::unsigned(self.temperature));
         records::put_u32(out, 10, self.litres);
+        self.fill_gas(out);
+        self.fill_exhaust(out);
+    }
+
+    fn fill_gas(self, out: &mut [u8])
+        ensures { λ _. ⌜ now (out .exit) ≡ filled (take 8 (drop 4 minuteLayout)) self (now (out .entry)) ⌝ }
+    {
+        let gas = self.gas;
         records::put_u32(out, 14, gas.ch4);
         records::put_u32(out, 18, gas.co);
         records::put_u32(out, 22, gas.co2);
@@ -43,6 +50,12 @@ impl Minute {
         records::put_u32(out, 34, gas.h2s);
         records::put_u32(out, 38, gas.nh3);
         records::put_u32(out, 42, gas.n2);
+    }
+
+    fn fill_exhaust(self, out: &mut [u8])
+        ensures { λ _. ⌜ now (out .exit) ≡ filled (drop 12 minuteLayout) self (now (out .entry)) ⌝ }
+    {
+        let exhaust = self.exhaust;
         records::put_u32(out, 46, exhaust.oxygen);
         records::put_u32(out, 50, exhaust.methane);
     }

@@ -8,8 +8,8 @@ use borrow.Author.Tests.{eqb-true, not-false}
 use lib.Dec.{eqb}
 use lib.ListN.{length}
 use Rattle.exact.specs.Bytes.{bytesOf, put}
-use Rattle.exact.specs.Layout.{Layout, laid, gapless}
-use Rattle.exact.proofs.Layouts.{within, filled, filled-laid}
+use Rattle.exact.specs.Layout.{Layout, laid, filled, gapless}
+use Rattle.exact.proofs.Layouts.{within, filled-laid}
 use Rattle.refusals.specs.Tables.{Line, firstOf, also, after}
 use Rattle.records.specs.House.{houseForm, bufferLines}
 use Rattle.refusals.specs.declared.refusal.Refusal.the-variants.{Buffer}

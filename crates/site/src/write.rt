@@ -1,8 +1,9 @@
 // Writing a site record into any buffer.
 ghost use mathlib.Core.Path.{_≡_};
-ghost use lib.ListN.{length};
+ghost use lib.ListN.{length, take, drop};
+ghost use Rattle.exact.specs.Layout.{filled};
 ghost use Rattle.records.specs.House.{written};
-ghost use Rattle.site.specs.Record.{siteBytes, writeSite};
+ghost use Rattle.site.specs.Record.{siteLayout, siteBytes, writeSite};
 use crate::Site;
 use refusals::Refusal;
 use refusals::Verdict;
@@ -28,18 +29,24 @@ impl Site {
         requires { ⌜ length (now out) ≡ 30 ⌝ }
         ensures { λ _. ⌜ now (out .exit) ≡ siteBytes self ⌝ }
     {
-        let temperature = self.temperature;
-        let flow = self.flow;
         records::put_head(out, (Site::BYTES - 2) as u16, Site::VERSION);
         records::put_byte(out, 3, self.method);
         records::put_u16(out, 4, self.year);
         records::put_u16(out, 6, self.gwp);
         records::put_u32(out, 8, self.height);
         records::put_u32(out, 12, self.diameter);
+        self.fill_limits(out);
+        records::put_u16(out, 28, self.days);
+    }
+
+    fn fill_limits(self, out: &mut [u8])
+        ensures { λ _. ⌜ now (out .exit) ≡ filled (take 4 (drop 5 siteLayout)) self (now (out .entry)) ⌝ }
+    {
+        let temperature = self.temperature;
+        let flow = self.flow;
         records::put_u16(out, 16, records::unsigned(temperature.lowest));
         records::put_u16(out, 18, records::unsigned(temperature.highest));
         records::put_u32(out, 20, flow.lowest);
         records::put_u32(out, 24, flow.highest);
-        records::put_u16(out, 28, self.days);
     }
 }
