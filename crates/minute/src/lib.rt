@@ -6,7 +6,7 @@ mod write;
 pub use gas::Gas;
 ghost use mathlib.Core.Path.{_≡_};
 ghost use Rattle.refusals.specs.Tables.{firstOf};
-ghost use Rattle.minute.specs.Rules.{hasGas, flagsWrong, flowWrong, temperatureWrong, exhaustWrong, minuteLines, aloneLines};
+ghost use Rattle.minute.specs.Rules.{temperatureWrong, exhaustWrong, minuteLines, aloneLines};
 use refusals::Refusal;
 use refusals::Verdict;
 
@@ -58,24 +58,6 @@ impl Minute {
 
     pub const MOST_METHANE: u32 = 50_000;
 
-    fn has_gas(self) -> bool
-        ensures { λ r. ⌜ r ≡ hasGas self ⌝ }
-    {
-        0 < self.litres
-    }
-
-    fn flags_wrong(self) -> bool
-        ensures { λ r. ⌜ r ≡ flagsWrong self ⌝ }
-    {
-        Minute::FLAGS < self.flags
-    }
-
-    fn flow_wrong(self) -> bool
-        ensures { λ r. ⌜ r ≡ flowWrong self ⌝ }
-    {
-        Minute::MOST_LITRES < self.litres
-    }
-
     fn temperature_wrong(self) -> bool
         ensures { λ r. ⌜ r ≡ temperatureWrong self ⌝ }
     {
@@ -99,11 +81,12 @@ impl Minute {
         ensures { λ r. ⌜ r ≡ firstOf (minuteLines disordered self) ⌝ }
     {
         let gas = self.gas;
-        let burnt = self.has_gas();
+        let litres = self.litres;
+        let burnt = 0 < litres;
         Verdict::Fine
-            .also(self.flags_wrong(), Refusal::Flags)
+            .also(Minute::FLAGS < self.flags, Refusal::Flags)
             .also(disordered, Refusal::Order)
-            .also(self.flow_wrong(), Refusal::Flow)
+            .also(Minute::MOST_LITRES < litres, Refusal::Flow)
             .also(burnt & gas.composition_wrong(), Refusal::Composition)
             .also(burnt & gas.methane_wrong(), Refusal::Methane)
             .also(self.temperature_wrong(), Refusal::Temperature)

@@ -4,7 +4,7 @@ mod write;
 
 ghost use mathlib.Core.Path.{_≡_};
 ghost use Rattle.refusals.specs.Tables.{firstOf};
-ghost use Rattle.site.specs.Rules.{methodWrong, yearWrong, gwpWrong, sizeWrong, temperaturesWrong, flowsWrong, isMeasured, isOpen, scheduleWrong, siteLines};
+ghost use Rattle.site.specs.Rules.{temperaturesWrong, flowsWrong, siteLines};
 use refusals::Refusal;
 use refusals::Verdict;
 
@@ -73,67 +73,45 @@ impl Site {
     // An enclosure of at most so many diameters is open.
     pub const OPEN_DIAMETERS: u64 = 2;
 
-    fn measured(self) -> bool
-        ensures { λ r. ⌜ r ≡ isMeasured self ⌝ }
-    {
-        self.method == Site::MEASURED
-    }
-
-    fn method_wrong(self) -> bool
-        ensures { λ r. ⌜ r ≡ methodWrong self ⌝ }
-    {
-        !((self.method == Site::DEFAULT) | (self.method == Site::MEASURED))
-    }
-
-    fn year_wrong(self) -> bool
-        ensures { λ r. ⌜ r ≡ yearWrong self ⌝ }
-    {
-        (self.year < Site::FIRST_YEAR) | (Site::LAST_YEAR < self.year)
-    }
-
-    fn gwp_wrong(self) -> bool
-        ensures { λ r. ⌜ r ≡ gwpWrong self ⌝ }
-    {
-        (self.gwp < Site::LEAST_GWP) | (Site::MOST_GWP < self.gwp)
-    }
-
-    fn size_wrong(self) -> bool
-        ensures { λ r. ⌜ r ≡ sizeWrong self ⌝ }
-    {
-        (Site::MOST_HEIGHT < self.height)
-            | ((self.diameter < Site::LEAST_DIAMETER) | (Site::MOST_DIAMETER < self.diameter))
-    }
-
-    // Whether the flare is open.
-    fn open(self) -> bool
-        ensures { λ r. ⌜ r ≡ isOpen self ⌝ }
-    {
-        let height = self.height as u64;
-        let diameter = self.diameter as u64;
-        height <= Site::OPEN_DIAMETERS * diameter
-    }
-
-    fn schedule_wrong(self) -> bool
-        ensures { λ r. ⌜ r ≡ scheduleWrong self ⌝ }
-    {
-        (Site::MOST_DAYS < self.days)
-            | ((self.method == Site::MEASURED) & (self.days < Site::LEAST_DAYS_MEASURED))
-    }
-
     // The first of the refusals 3 to 9 of the fields.
     fn verdict(self) -> Verdict
         ensures { λ r. ⌜ r ≡ firstOf (siteLines self) ⌝ }
     {
+        let measured = self.method == Site::MEASURED;
+        let year = self.year;
+        let gwp = self.gwp;
+        let height = self.height;
+        let diameter = self.diameter;
         let temperature = self.temperature;
         let flow = self.flow;
+        let days = self.days;
         Verdict::Fine
-            .also(self.method_wrong(), Refusal::Method)
-            .also(self.year_wrong(), Refusal::Year)
-            .also(self.gwp_wrong(), Refusal::Gwp)
-            .also(self.size_wrong(), Refusal::Size)
+            .also(
+                !((self.method == Site::DEFAULT) | measured),
+                Refusal::Method,
+            )
+            .also(
+                (year < Site::FIRST_YEAR) | (Site::LAST_YEAR < year),
+                Refusal::Year,
+            )
+            .also(
+                (gwp < Site::LEAST_GWP) | (Site::MOST_GWP < gwp),
+                Refusal::Gwp,
+            )
+            .also(
+                (Site::MOST_HEIGHT < height)
+                    | ((diameter < Site::LEAST_DIAMETER) | (Site::MOST_DIAMETER < diameter)),
+                Refusal::Size,
+            )
             .also(temperature.wrong() | flow.wrong(), Refusal::Spec)
-            .also(self.measured() & self.open(), Refusal::Open)
-            .also(self.schedule_wrong(), Refusal::Schedule)
+            .also(
+                measured & (height as u64 <= Site::OPEN_DIAMETERS * diameter as u64),
+                Refusal::Open,
+            )
+            .also(
+                (Site::MOST_DAYS < days) | (measured & (days < Site::LEAST_DAYS_MEASURED)),
+                Refusal::Schedule,
+            )
     }
 }
 

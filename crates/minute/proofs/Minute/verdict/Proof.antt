@@ -1,5 +1,5 @@
-use Rattle.minute.specs.Rules.{minuteLines}
 use Rattle.refusals.proofs.Tables.{chained}
+use Rattle.minute.specs.Rules.{minuteLines}
 use borrow.Author.Needs.{needs}
 use Rattle.minute.proofs.Minute.verdict.Statement.{statement}
 use Rattle.minute.proofs.Minute.verdict.Tie as tie
@@ -11,8 +11,6 @@ returns c =
     let c5 = c6 .before .before in
     let c4 = c5 .before .before in
     let c3 = c4 .before .before in
-    let c2 = c3 .before .before in
-    let c1 = c2 .before in
     rw (
       ← chained,
       c .also7 .ensures,
@@ -24,20 +22,14 @@ returns c =
       c4 .also4 .ensures,
       c4 .before .composition-wrong .ensures,
       c3 .also3 .ensures,
-      c3 .before .flow-wrong .ensures,
-      c2 .also2 .ensures,
-      c1 .also .ensures,
-      c1 .before .flags-wrong .ensures,
-      c1 .before .before .has-gas .ensures,
+      c3 .before .also2 .ensures,
+      c3 .before .before .also .ensures,
     )
 
 pub verdict-spec : {M : Type 1} → statement M
 verdict-spec =
     tie.close
     (tie.spec
-    (search needs)
-    (search needs)
-    (search needs)
     (search needs)
     (search needs)
     (search needs)
