@@ -92,6 +92,7 @@ impl Minute {
             .also(self.temperature_wrong(), Refusal::Temperature)
             .also(self.exhaust_wrong(), Refusal::Exhaust)
     }
+
     // The verdict of a minute alone, which is out of order where no year has it.
     fn alone(self) -> Verdict
         ensures { λ r. ⌜ r ≡ firstOf (aloneLines self) ⌝ }
