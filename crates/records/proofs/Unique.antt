@@ -1,4 +1,5 @@
 -- Each call's contract leaves one result, and one state of a lent buffer.
+-- `Learnt κs a x e` is what the contract says of the arguments a, the result x and the state e at exit; κs are the lifetimes.
 use mathlib.Core.Path.{refl, sym, _∙_}
 use denote.Ref.{now}
 use Rattle.exact.specs.One.{OneResult, OneOutcome}

@@ -1,4 +1,5 @@
 -- Each call's contract leaves one result.
+-- `Learnt κs a x e` is what the contract says of the arguments a, the result x and the state e at exit; κs are the lifetimes.
 use mathlib.Core.Path.{sym, _∙_}
 use Rattle.exact.specs.One.{OneResult}
 use Rattle.refusals.proofs.refusal.Refusal.number.Reads as number
