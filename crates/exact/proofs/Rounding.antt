@@ -1,11 +1,15 @@
 -- Laws of rounding quotients of whole numbers, once and twice.
 use mathlib.Core.Path.{_≡_, sym, ap, _∙_}
 use Prim.Native.Nat.{ℕ, _+_, _-_, _*_, _/_, _%_, _≤_, _<_, min}
-use native.Mathlib.Nat.{le-div-iff-mul-le, mul-pos, le-of-mul-le-mul-right, le-refl, mul-le-mul-right, mul-le-mul-left, div-add-mod'}
+use native.Mathlib.Nat.{mul-le-mul, le-div-iff-mul-le, mul-pos, le-of-mul-le-mul-right, le-refl, mul-le-mul-right, mul-le-mul-left, div-add-mod'}
 use native.Mathlib.Decide.{decLe}
 use native.Mathlib.Omega.{arith}
 use Rattle.exact.specs.Rounding.{ceilDiv}
 use Rattle.exact.specs.RoundingLaws.{ceil-le, ceil-unique, floor-unique}
+
+-- a product within bounds that are written out
+pub mul-within : (a b A B : ℕ) → a ≤ A → b ≤ B → a * b ≤ A * B
+mul-within a b A B h k = mul-le-mul h k
 
 -- both bounds of a rounding up
 pub ceil-bounds : (x a : ℕ) → 0 < a → (x ≤ ceilDiv x a * a) × (ceilDiv x a * a < x + a)
@@ -119,13 +123,13 @@ ceil-nest x y a b ha hb = sym (ceil-unique (x * b + y) (a * b) (ceilDiv (x + cei
         let q : ceilDiv y b ≤ m = ceil-le y b m hb .1 (omega arith) in
         ceil-le (x + ceilDiv y b) a c ha .1 (omega arith)
 
--- x / d and a tenth of F, rounded up once, with no product by ten of x
-pub low-ceil : (x d F : ℕ) → 0 < d → F / 10 + ceilDiv (x + ceilDiv (d * (F % 10)) 10) d ≡ ceilDiv (10 * x + d * F) (10 * d)
-low-ceil x d F h =
-    let e : 10 * x + d * F ≡ (x * 10 + d * (F % 10)) + F / 10 * (d * 10) = omega (arith, ap (λ (z : ℕ). d * z) (div-add-mod' F 10)) in
+-- x / d and t tenths of F, rounded up once, with no product of ten and x
+pub tenths-ceil : (x d F t : ℕ) → 0 < d → t * (F / 10) + ceilDiv (x + ceilDiv (d * (t * (F % 10))) 10) d ≡ ceilDiv (10 * x + d * (t * F)) (10 * d)
+tenths-ceil x d F t h =
+    let e : 10 * x + d * (t * F) ≡ (x * 10 + d * (t * (F % 10))) + t * (F / 10) * (d * 10) = omega (arith, ap (λ (z : ℕ). d * (t * z)) (div-add-mod' F 10)) in
     let f : 10 * d ≡ d * 10 = omega arith in
-    rw (e, f, ceil-plus (x * 10 + d * (F % 10)) (F / 10) (d * 10) (omega arith), ceil-nest x (d * (F % 10)) d 10 h (omega arith)) (omega arith)
+    rw (e, f, ceil-plus (x * 10 + d * (t * (F % 10))) (t * (F / 10)) (d * 10) (omega arith), ceil-nest x (d * (t * (F % 10))) d 10 h (omega arith)) (omega arith)
 
 -- and the same capped at F
-pub low-capped : (x d F : ℕ) → 0 < d → min (F / 10 + ceilDiv (x + ceilDiv (d * (F % 10)) 10) d) F ≡ ceilDiv (min (10 * x + d * F) (F * (10 * d))) (10 * d)
-low-capped x d F h = ap (λ (z : ℕ). min z F) (low-ceil x d F h) ∙ ceil-min (10 * x + d * F) (10 * d) F (omega arith)
+pub tenths-capped : (x d F t : ℕ) → 0 < d → min (t * (F / 10) + ceilDiv (x + ceilDiv (d * (t * (F % 10))) 10) d) F ≡ ceilDiv (min (10 * x + d * (t * F)) (F * (10 * d))) (10 * d)
+tenths-capped x d F t h = ap (λ (z : ℕ). min z F) (tenths-ceil x d F t h) ∙ ceil-min (10 * x + d * (t * F)) (10 * d) F (omega arith)

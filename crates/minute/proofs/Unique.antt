@@ -5,6 +5,7 @@ use denote.Ref.{now}
 use Rattle.exact.specs.One.{OneResult, OneOutcome}
 use Rattle.records.specs.House.{written}
 use Rattle.minute.proofs.Minute.read.Reads as read
+use Rattle.minute.proofs.Minute.verdict.Reads as verdict
 use Rattle.minute.proofs.Minute.write.Reads as write
 
 pub read-one : (κs : _) (a : _) → OneResult (read.Learnt κs a)
@@ -14,3 +15,6 @@ pub write-one : (κs : _) (a : _) → OneOutcome (λ e. now (e .1 .0)) (write.Le
 write-one κs a x y e f p q =
     let same = p .0 ∙ sym (q .0) in
     (same, p .1 ∙ ap (written _ _) same ∙ sym (q .1))
+
+pub verdict-one : (κs : _) (a : _) → OneResult (verdict.Learnt κs a)
+verdict-one κs a x y e f p q = p ∙ sym q

@@ -15,6 +15,9 @@ use Rattle.minute.specs.declared.Minute.{Minute}
 abbrev pub flag : ℕ → Minute → Bool
 flag k m = eqb (m .flags / 2 ^ k % 2) 1
 
+abbrev pub flameSeen : Minute → Bool
+flameSeen m = flag 0 m
+
 abbrev pub temperaturePresent : Minute → Bool
 temperaturePresent m = flag 1 m
 

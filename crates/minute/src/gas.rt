@@ -17,6 +17,26 @@ impl Gas {
     // All of the gas, in ppm.
     pub const WHOLE: u32 = 1_000_000;
 
+    // The density of methane, in g/m3: nanograms in a litre of gas for each ppm.
+    pub const DENSITY: u64 = 716;
+
+    // The weights of K, by which the exhaust volume goes.
+    pub const K_CH4: u64 = 716;
+
+    pub const K_CO: u64 = 242;
+
+    pub const K_CO2: u64 = 84;
+
+    pub const K_O2: u64 = 316;
+
+    pub const K_H2: u64 = 158;
+
+    pub const K_H2S: u64 = 158;
+
+    pub const K_NH3: u64 = 279;
+
+    pub const K_N2: u64 = 84;
+
     fn total(self) -> u64
         ensures { λ r. ⌜ r ≡ total self ⌝ }
     {

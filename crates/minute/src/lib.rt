@@ -77,7 +77,7 @@ impl Minute {
     }
 
     // The first of the refusals 12 to 18 of the fields, with 13 where the minute is out of order.
-    fn verdict(self, disordered: bool) -> Verdict
+    pub fn verdict(self, disordered: bool) -> Verdict
         ensures { λ r. ⌜ r ≡ firstOf (minuteLines disordered self) ⌝ }
     {
         let gas = self.gas;

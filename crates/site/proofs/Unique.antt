@@ -4,7 +4,10 @@ use mathlib.Core.Path.{ap, sym, _∙_}
 use denote.Ref.{now}
 use Rattle.exact.specs.One.{OneResult, OneOutcome}
 use Rattle.records.specs.House.{written}
+use Rattle.site.proofs.Site.is_open.Reads as is-open
+use Rattle.site.proofs.Site.minutes.Reads as minutes
 use Rattle.site.proofs.Site.read.Reads as read
+use Rattle.site.proofs.Site.verdict.Reads as verdict
 use Rattle.site.proofs.Site.write.Reads as write
 
 pub read-one : (κs : _) (a : _) → OneResult (read.Learnt κs a)
@@ -14,3 +17,12 @@ pub write-one : (κs : _) (a : _) → OneOutcome (λ e. now (e .1 .0)) (write.Le
 write-one κs a x y e f p q =
     let same = p .0 ∙ sym (q .0) in
     (same, p .1 ∙ ap (written _ _) same ∙ sym (q .1))
+
+pub verdict-one : (κs : _) (a : _) → OneResult (verdict.Learnt κs a)
+verdict-one κs a x y e f p q = p ∙ sym q
+
+pub minutes-one : (κs : _) (a : _) → OneResult (minutes.Learnt κs a)
+minutes-one κs a x y e f p q = p ∙ sym q
+
+pub is-open-one : (κs : _) (a : _) → OneResult (is-open.Learnt κs a)
+is-open-one κs a x y e f p q = p ∙ sym q

@@ -1,6 +1,6 @@
 -- Document 01, "Records" and "Numbers a caller gets back": the ranges of a site's fields, and its refusals 3 to 9 in their order.
-use Prim.Native.Nat.{_*_}
-use mathlib.Core.Bool.{Bool, _||_, _&&_, not}
+use Prim.Native.Nat.{ℕ, _*_, _%_}
+use mathlib.Core.Bool.{Bool, true, false, _||_, _&&_, not}
 use mathlib.Core.List.{List, [], _∷_}
 use lib.Dec.{ltb, leb, eqb}
 use lib.Signed.{ltZ}
@@ -43,6 +43,14 @@ flowsWrong f = flowOutside (f .lowest) || flowOutside (f .highest) || ltb (f .hi
 -- "Height at most twice the diameter: open"
 abbrev pub isOpen : Site → Bool
 isOpen s = leb (s .height) (2 * s .diameter)
+
+abbrev leapOr : Bool → ℕ
+leapOr true = 527040
+leapOr false = 525600
+
+-- "A year has 525,600 minutes, or 527,040 when divisible by four"
+abbrev pub yearMinutes : ℕ → ℕ
+yearMinutes year = leapOr (eqb (year % 4) 0)
 
 -- "1..3,660 measured, 0..3,660 default"
 abbrev pub scheduleWrong : Site → Bool

@@ -4,7 +4,7 @@ mod write;
 
 ghost use mathlib.Core.Path.{_≡_};
 ghost use Rattle.refusals.specs.Tables.{firstOf};
-ghost use Rattle.site.specs.Rules.{temperaturesWrong, flowsWrong, siteLines};
+ghost use Rattle.site.specs.Rules.{temperaturesWrong, flowsWrong, isOpen, yearMinutes, siteLines};
 use refusals::Refusal;
 use refusals::Verdict;
 
@@ -70,11 +70,36 @@ impl Site {
 
     pub const MOST_DAYS: u16 = 3_660;
 
-    // An enclosure of at most so many diameters is open.
+    // An enclosure of at most so many diameters is open, and one of at most so many is low.
     pub const OPEN_DIAMETERS: u64 = 2;
 
+    pub const LOW_DIAMETERS: u64 = 10;
+
+    // Of an ordinary and of a leap year.
+    pub const MINUTES: u32 = 525_600;
+
+    pub const LEAP_MINUTES: u32 = 527_040;
+
+    // Whether the enclosure is too short for an enclosed flare.
+    pub fn is_open(self) -> bool
+        ensures { λ r. ⌜ r ≡ isOpen self ⌝ }
+    {
+        self.height as u64 <= Site::OPEN_DIAMETERS * self.diameter as u64
+    }
+
+    // How many minutes the site's year has.
+    pub fn minutes(self) -> u32
+        ensures { λ r. ⌜ r ≡ yearMinutes (self .year) ⌝ }
+    {
+        if self.year % 4 == 0 {
+            Site::LEAP_MINUTES
+        } else {
+            Site::MINUTES
+        }
+    }
+
     // The first of the refusals 3 to 9 of the fields.
-    fn verdict(self) -> Verdict
+    pub fn verdict(self) -> Verdict
         ensures { λ r. ⌜ r ≡ firstOf (siteLines self) ⌝ }
     {
         let measured = self.method == Site::MEASURED;
@@ -104,10 +129,7 @@ impl Site {
                 Refusal::Size,
             )
             .also(temperature.wrong() | flow.wrong(), Refusal::Spec)
-            .also(
-                measured & (height as u64 <= Site::OPEN_DIAMETERS * diameter as u64),
-                Refusal::Open,
-            )
+            .also(measured & self.is_open(), Refusal::Open)
             .also(
                 (Site::MOST_DAYS < days) | (measured & (days < Site::LEAST_DAYS_MEASURED)),
                 Refusal::Schedule,

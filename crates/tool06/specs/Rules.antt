@@ -1,0 +1,78 @@
+-- Document 01, "Efficiency, by the first rule that applies".
+use Prim.Native.Nat.{ℕ}
+use mathlib.Core.Bool.{Bool, true, false, not}
+use mathlib.Core.List.{List, [], _∷_}
+use Rattle.exact.specs.Fractions.{Frac, _⊖_, _⊘_, whole, at-least-zero}
+use Rattle.exact.specs.Ranges.{outside, outsideZ}
+use Rattle.site.specs.Rules.{isDefault, isOpen}
+use Rattle.site.specs.declared.Site.{Site}
+use Rattle.minute.specs.Rules.{hasGas, flameSeen, temperaturePresent, exhaustPresent}
+use Rattle.minute.specs.declared.Minute.{Minute}
+use Rattle.tool06.specs.declared.class.Class.{Class}
+use Rattle.tool06.specs.declared.class.Class.the-variants.{Open, Low, Tall}
+use Rattle.tool06.specs.Class.{classOf}
+use Rattle.tool06.specs.Tool.{Masses, η-calc}
+
+-- a rule: its number, and the efficiency that it gives, for any masses
+pub record Rule : Type 0 where
+  pub number : ℕ
+  pub efficiency : Masses → Frac
+
+abbrev pub rule : ℕ → (Masses → Frac) → Rule
+rule k η = record { number = k; efficiency = η }
+
+-- a line of the list: a rule, and when it applies
+pub data RuleLine : Type 0 where
+  when : Bool → Rule → RuleLine
+
+-- the first rule that applies, or else the last
+abbrev pub first : List RuleLine → Rule → Rule
+first [] last = last
+first (when true r ∷ rest) last = r
+first (when false r ∷ rest) last = first rest last
+
+-- the tool's paragraphs 24 and 38: for low height flares "subtracting 10 percentile points"
+abbrev pub lowered : Class → Frac → Frac
+lowered Open η = η
+lowered Low η = η ⊖ whole 1 ⊘ whole 10
+lowered Tall η = η
+
+abbrev pub nothing : Masses → Frac
+nothing m = whole 0
+
+-- paragraph 19: open
+abbrev pub half : Masses → Frac
+half m = whole 1 ⊘ whole 2
+
+-- paragraph 22: "9/10, low 8/10"
+abbrev pub byDefault : Site → Masses → Frac
+byDefault s m = lowered (classOf s) (whole 9 ⊘ whole 10)
+
+-- paragraph 29: "one less F_EG/F_RG, low 1/10 less again, never below 0"
+abbrev pub measured : Site → Minute → Masses → Frac
+measured s n m = at-least-zero (lowered (classOf s) (η-calc m n))
+
+-- "Ends of each specification range are inside"
+abbrev pub temperatureUnfit : Site → Minute → Bool
+temperatureUnfit s n = outsideZ (s .temperature .lowest) (s .temperature .highest) (n .temperature)
+
+abbrev pub flowUnfit : Site → Minute → Bool
+flowUnfit s n = outside (s .flow .lowest) (s .flow .highest) (n .litres)
+
+-- "0 no gas. 1 no flame. 2 open. 4 temperature missing. 5 temperature outside the specification. 6 flow outside it. 3 default method. 7 maintenance overdue. 8 exhaust readings missing."
+unfoldable pub ruleLines : Site → Minute → Bool → List RuleLine
+ruleLines s n inTime =
+    when (not (hasGas n)) (rule 0 nothing)
+    ∷ when (not (flameSeen n)) (rule 1 nothing)
+    ∷ when (isOpen s) (rule 2 half)
+    ∷ when (not (temperaturePresent n)) (rule 4 nothing)
+    ∷ when (temperatureUnfit s n) (rule 5 nothing)
+    ∷ when (flowUnfit s n) (rule 6 nothing)
+    ∷ when (isDefault s) (rule 3 (byDefault s))
+    ∷ when (not inTime) (rule 7 nothing)
+    ∷ when (not (exhaustPresent n)) (rule 8 nothing)
+    ∷ []
+
+-- ".. 9 measured"
+unfoldable pub theRule : Site → Minute → Bool → Rule
+theRule s n inTime = first (ruleLines s n inTime) (rule 9 (measured s n))

@@ -1,0 +1,163 @@
+-- Document 002, Step 1 and Step 2, Option B.2: equations (2) to (14), one definition each, under the tool's names.
+-- Masses are in kg, volumes in m3 on a dry basis at reference conditions, and all numbers are exact fractions.
+use Prim.Native.Nat.{ℕ}
+use Rattle.exact.specs.Fractions.{Frac, _⊕_, _⊖_, _⊗_, _⊘_, whole, _≺_}
+use Rattle.minute.specs.declared.gas.Gas.{Gas}
+use Rattle.minute.specs.declared.Minute.{Minute}
+
+-- something for each component i of the residual gas
+pub record Each (A : Type 0) : Type 0 where
+  pub CH4 : A
+  pub CO : A
+  pub CO2 : A
+  pub O2 : A
+  pub H2 : A
+  pub H2S : A
+  pub NH3 : A
+  pub N2 : A
+
+-- Table 1: the atomic masses and the molecular mass of the residual gas, kg/kmol, and the molar volume, m3/kmol
+pub record Masses : Type 0 where
+  pub AM-C : Frac
+  pub AM-H : Frac
+  pub AM-O : Frac
+  pub AM-N : Frac
+  pub MM-RG : Frac
+  pub VM-ref : Frac
+
+-- "MM any positive molecular mass", and the others too
+pub record Positive (m : Masses) : Type 0 where
+  pub C-positive : whole 0 ≺ m .AM-C
+  pub H-positive : whole 0 ≺ m .AM-H
+  pub O-positive : whole 0 ≺ m .AM-O
+  pub N-positive : whole 0 ≺ m .AM-N
+  pub MM-positive : whole 0 ≺ m .MM-RG
+  pub VM-positive : whole 0 ≺ m .VM-ref
+
+-- NA: "Number of atoms of element j in component i"
+abbrev pub NA-C : Each ℕ
+NA-C = record { CH4 = 1; CO = 1; CO2 = 1; O2 = 0; H2 = 0; H2S = 0; NH3 = 0; N2 = 0 }
+
+abbrev pub NA-H : Each ℕ
+NA-H = record { CH4 = 4; CO = 0; CO2 = 0; O2 = 0; H2 = 2; H2S = 2; NH3 = 3; N2 = 0 }
+
+abbrev pub NA-O : Each ℕ
+NA-O = record { CH4 = 0; CO = 1; CO2 = 2; O2 = 2; H2 = 0; H2S = 0; NH3 = 0; N2 = 0 }
+
+abbrev pub NA-N : Each ℕ
+NA-N = record { CH4 = 0; CO = 0; CO2 = 0; O2 = 0; H2 = 0; H2S = 0; NH3 = 1; N2 = 2 }
+
+-- a volumetric fraction, from ppm
+unfoldable pub v : ℕ → Frac
+v ppm = whole ppm ⊘ whole 1000000
+
+-- the sum over the components i of v_i times something for each i
+unfoldable pub Σ-v : Gas → Each Frac → Frac
+Σ-v g x =
+    v (g .ch4) ⊗ x .CH4
+    ⊕ v (g .co) ⊗ x .CO
+    ⊕ v (g .co2) ⊗ x .CO2
+    ⊕ v (g .o2) ⊗ x .O2
+    ⊕ v (g .h2) ⊗ x .H2
+    ⊕ v (g .h2s) ⊗ x .H2S
+    ⊕ v (g .nh3) ⊗ x .NH3
+    ⊕ v (g .n2) ⊗ x .N2
+
+-- the mass of an element's atoms in a molecule of each component
+abbrev pub AM×NA : Frac → Each ℕ → Each Frac
+AM×NA AM n = record {
+  CH4 = AM ⊗ whole (n .CH4);
+  CO = AM ⊗ whole (n .CO);
+  CO2 = AM ⊗ whole (n .CO2);
+  O2 = AM ⊗ whole (n .O2);
+  H2 = AM ⊗ whole (n .H2);
+  H2S = AM ⊗ whole (n .H2S);
+  NH3 = AM ⊗ whole (n .NH3);
+  N2 = AM ⊗ whole (n .N2);
+}
+
+-- V_RG, from litres
+unfoldable pub V-RG : Minute → Frac
+V-RG n = whole (n .litres) ⊘ whole 1000
+
+-- Table 1: the density of methane, 0.716 kg/m3
+unfoldable pub ρ-CH4 : Frac
+ρ-CH4 = whole 716 ⊘ whole 1000
+
+-- Step 1: the mass of methane fed
+unfoldable pub F-CH4-RG : Minute → Frac
+F-CH4-RG n = ρ-CH4 ⊗ V-RG n ⊗ v (n .gas .ch4)
+
+-- Table 1: the oxygen in air, 0.21
+unfoldable pub v-O2-air : Frac
+v-O2-air = whole 21 ⊘ whole 100
+
+-- (7) the molecular mass, from the molecular mass MM_i of each component
+unfoldable pub MM-RG-of : Each Frac → Gas → Frac
+MM-RG-of MM g = Σ-v g MM
+
+module _ (m : Masses) (n : Minute) where
+  -- (14) the mass fraction of an element
+  unfoldable pub MF : Frac → Each ℕ → Frac
+  MF AM NA = Σ-v (n .gas) (AM×NA AM NA) ⊘ m .MM-RG
+
+  unfoldable pub MF-C : Frac
+  MF-C = MF (m .AM-C) NA-C
+
+  unfoldable pub MF-H : Frac
+  MF-H = MF (m .AM-H) NA-H
+
+  unfoldable pub MF-O : Frac
+  MF-O = MF (m .AM-O) NA-O
+
+  unfoldable pub MF-N : Frac
+  MF-N = MF (m .AM-N) NA-N
+
+  -- (13)
+  unfoldable pub F-O2-RG : Frac
+  F-O2-RG = MF-C ⊘ m .AM-C ⊕ MF-H ⊘ (whole 4 ⊗ m .AM-H) ⊖ MF-O ⊘ (whole 2 ⊗ m .AM-O)
+
+  unfoldable pub v-O2-EG : Frac
+  v-O2-EG = v (n .exhaust .oxygen)
+
+  -- (12)
+  unfoldable pub n-O2-EG : Frac
+  n-O2-EG =
+      v-O2-EG ⊘ (whole 1 ⊖ v-O2-EG ⊘ v-O2-air)
+      ⊗ (MF-C ⊘ m .AM-C ⊕ MF-N ⊘ (whole 2 ⊗ m .AM-N) ⊕ (whole 1 ⊖ v-O2-air) ⊘ v-O2-air ⊗ F-O2-RG)
+
+  -- (11)
+  unfoldable pub Q-CO2-EG : Frac
+  Q-CO2-EG = MF-C ⊘ m .AM-C ⊗ m .VM-ref
+
+  -- (10)
+  unfoldable pub Q-N2-EG : Frac
+  Q-N2-EG = m .VM-ref ⊗ (MF-N ⊘ (whole 2 ⊗ m .AM-N) ⊕ (whole 1 ⊖ v-O2-air) ⊘ v-O2-air ⊗ (F-O2-RG ⊕ n-O2-EG))
+
+  -- (9)
+  unfoldable pub Q-O2-EG : Frac
+  Q-O2-EG = n-O2-EG ⊗ m .VM-ref
+
+  -- (8)
+  unfoldable pub Q-EG : Frac
+  Q-EG = Q-CO2-EG ⊕ Q-O2-EG ⊕ Q-N2-EG
+
+  -- (6) document 01 has MM / VMref for the tool's P_ref / (R_u / MM × T_ref)
+  unfoldable pub ρ-RG : Frac
+  ρ-RG = m .MM-RG ⊘ m .VM-ref
+
+  -- (5)
+  unfoldable pub M-RG : Frac
+  M-RG = ρ-RG ⊗ V-RG n
+
+  -- (4)
+  unfoldable pub V-EG : Frac
+  V-EG = Q-EG ⊗ M-RG
+
+  -- (3) with fc_CH4 in mg/m3
+  unfoldable pub F-CH4-EG : Frac
+  F-CH4-EG = V-EG ⊗ whole (n .exhaust .methane) ⊗ (whole 1 ⊘ whole 1000000)
+
+  -- (2)
+  unfoldable pub η-calc : Frac
+  η-calc = whole 1 ⊖ F-CH4-EG ⊘ F-CH4-RG n

@@ -1,0 +1,58 @@
+// What one minute is worth.
+ghost use mathlib.Core.Path.{_≡_};
+ghost use mathlib.Core.Bool.{false};
+ghost use Rattle.refusals.specs.Tables.{firstOf};
+ghost use Rattle.refusals.specs.declared.verdict.Verdict.the-variants.{Fine};
+ghost use Rattle.tool06.specs.Figures.{figures};
+ghost use Rattle.tool06.specs.Judged.{judgedLines, judged, beyondYear};
+ghost use Rattle.tool06.specs.Tool.{Masses, Positive};
+use crate::Class;
+use crate::nanograms;
+use crate::rule;
+use minute::Gas;
+use minute::Minute;
+use refusals::Refusal;
+use refusals::Verdict;
+use site::Site;
+
+// The rule by its number, and methane in mg.
+pub struct Figures {
+    pub rule: u8,
+    pub fed: u64,
+    pub emitted: u64,
+    pub destroyed: u64,
+}
+
+pub enum Judged {
+    Accepted(Figures),
+    Refused(Refusal),
+}
+
+impl Figures {
+    // The rules' numbers.
+    pub const NO_GAS: u8 = 0;
+
+    pub const NO_FLAME: u8 = 1;
+
+    pub const OPEN: u8 = 2;
+
+    pub const DEFAULT: u8 = 3;
+
+    pub const NO_TEMPERATURE: u8 = 4;
+
+    pub const TEMPERATURE: u8 = 5;
+
+    pub const FLOW: u8 = 6;
+
+    pub const OVERDUE: u8 = 7;
+
+    pub const NO_EXHAUST: u8 = 8;
+
+    pub const MEASURED: u8 = 9;
+
+    // The oxygen in air, in ppm.
+    pub const AIR_OXYGEN: u32 = 210_000;
+
+    // Nanograms to a mg.
+    pub const NANOGRAMS: u64 = 1_000_000;
+}

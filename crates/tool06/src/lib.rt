@@ -1,0 +1,9 @@
+// One minute, by the tool.
+mod class;
+mod figures;
+mod nanograms;
+mod rule;
+
+pub use class::Class;
+pub use figures::Figures;
+pub use figures::Judged;
