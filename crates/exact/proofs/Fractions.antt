@@ -92,6 +92,10 @@ pub ⊖-⊖ : (x y z : Frac) → x ⊖ y ⊖ z ≡ x ⊖ (y ⊕ z)
 unfolding _⊖_
 ⊖-⊖ x y z = rw (neg-⊕, ⊕-assoc)
 
+pub ⊖-zero : (x : Frac) → x ⊖ whole 0 ≡ x
+unfolding _⊖_ _⊕_ neg whole
+⊖-zero x = ind (λ x. Quot-set (x ⊖ whole 0) x) (λ a. Quot·sound (omega arith)) x
+
 pub one-⊗ : (x : Frac) → whole 1 ⊗ x ≡ x
 one-⊗ x = rw (⊗-comm (whole 1) x, ⊗-one)
 

@@ -52,6 +52,12 @@ parts-ratio-mul p q r s h k = Quot·sound (by-scale (parts-mul (parts-ratio p q 
 pub ratio-⊗ : (p q r s : ℕ) → 0 < q → 0 < s → whole p ⊘ whole q ⊗ (whole r ⊘ whole s) ≡ whole (p * r) ⊘ whole (q * s)
 ratio-⊗ p q r s h k = rw (ratio p q h, ratio r s k, ratio (p * r) (q * s) (mul-pos h k)) (parts-ratio-mul p q r s h k)
 
+pub ratio-⊗-whole : (p q r : ℕ) → 0 < q → whole p ⊘ whole q ⊗ whole r ≡ whole (p * r) ⊘ whole q
+ratio-⊗-whole p q r h =
+    ap (λ (z : Frac). whole p ⊘ whole q ⊗ z) (sym (⊘-one (whole r)))
+    ∙ ratio-⊗ p q r 1 h (omega arith)
+    ∙ ratio-≡ (p * r) (q * 1) (p * r) q (omega arith) h (omega arith)
+
 parts-ratio-add : (p q r s : ℕ) (h : 0 < q) (k : 0 < s) → _≡_ {A = Frac} (Quot·mk (parts-ratio p q h) ⊕ Quot·mk (parts-ratio r s k)) (Quot·mk (parts-ratio (p * s + r * q) (q * s) (mul-pos h k)))
 unfolding _⊕_
 parts-ratio-add p q r s h k = Quot·sound (by-scale (parts-add (parts-ratio p q h) (parts-ratio r s k)) (parts-ratio (p * s + r * q) (q * s) (mul-pos h k)) 1 (omega arith) (omega arith) (omega arith))

@@ -40,18 +40,21 @@ flowWrong m = flowOutside (m .litres)
 abbrev pub total : Gas → ℕ
 total g = g .ch4 + g .co + g .co2 + g .o2 + g .h2 + g .h2s + g .nh3 + g .n2
 
--- "a fraction over 1,000,000 or a sum not 1,000,000"
-unfoldable pub compositionWrong : Gas → Bool
-compositionWrong g =
-    (above 1000000 (g .ch4)
+-- "a fraction over 1,000,000 .."
+abbrev pub fractionOver : Gas → Bool
+fractionOver g =
+    above 1000000 (g .ch4)
     || above 1000000 (g .co)
     || above 1000000 (g .co2)
     || above 1000000 (g .o2)
     || above 1000000 (g .h2)
     || above 1000000 (g .h2s)
     || above 1000000 (g .nh3)
-    || above 1000000 (g .n2))
-    || not (eqb (total g) 1000000)
+    || above 1000000 (g .n2)
+
+-- ".. or a sum not 1,000,000"
+unfoldable pub compositionWrong : Gas → Bool
+compositionWrong g = fractionOver g || not (eqb (total g) 1000000)
 
 -- "CH4 is 0 or below any of CO, H2, H2S, NH3"
 abbrev pub methaneWrong : Gas → Bool

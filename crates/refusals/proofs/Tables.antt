@@ -1,7 +1,7 @@
 -- Laws of tables of refusals.
 use mathlib.Core.Path.{_≡_, refl, sym, _∙_}
 use Prim.Native.Nat.{ℕ}
-use mathlib.Core.Bool.{true, false}
+use mathlib.Core.Bool.{Bool, true, false}
 use mathlib.Core.List.{List, [], _∷_, _++_}
 use native.Mathlib.Omega.{arith}
 use Rattle.refusals.specs.Tables.{Line, when, firstOf, also, after}
@@ -49,3 +49,10 @@ pub none : (t : List Line) → firstOf t ≡ Fine → NoneOf t
 none [] e = tt
 none (when true r ∷ t) e = absurd (fine-not e)
 none (when false r ∷ t) e = (refl, none t e)
+
+-- one line more, after a table's verdict
+pub one-more : (t : List Line) (bad : Bool) (why : Refusal) → also (firstOf t) bad why ≡ firstOf (t ++ (when bad why ∷ []))
+one-more [] true why = refl
+one-more [] false why = refl
+one-more (when true r ∷ t) bad why = refl
+one-more (when false r ∷ t) bad why = one-more t bad why

@@ -23,6 +23,11 @@ found-first (when true r ∷ rest) last = rw (kept (r .number) rest)
 found-first (when false r ∷ rest) last = found-first rest last
 
 -- what holds of the first rule, by each test in its turn
-pub by-turn : (P : Rule → Type 0) (test : Bool) (r last : Rule) (rest : List RuleLine) → (test ≡ true → P r) → (test ≡ false → P (first rest last)) → P (first (when test r ∷ rest) last)
-by-turn P true r last rest this rest-of = this refl
-by-turn P false r last rest this rest-of = rest-of refl
+abbrev pub Turns : (Rule → Type 0) → List RuleLine → Rule → Type 0
+Turns P [] last = P last
+Turns P (when test r ∷ rest) last = (test ≡ true → P r) × (test ≡ false → Turns P rest last)
+
+pub by-turns : (P : Rule → Type 0) (lines : List RuleLine) (last : Rule) → Turns P lines last → P (first lines last)
+by-turns P [] last p = p
+by-turns P (when true r ∷ rest) last p = p .0 refl
+by-turns P (when false r ∷ rest) last p = by-turns P rest last (p .1 refl)

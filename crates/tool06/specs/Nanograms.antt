@@ -1,12 +1,21 @@
 -- The whole nanograms that the code carries, rounded up once.
 -- Nothing here needs to be believed: the code's figures are proved to be those of Figures.antt.
-use Prim.Native.Nat.{ℕ, _+_, _*_, _≤_, min}
+use Prim.Native.Nat.{ℕ, _+_, _-_, _*_, _/_, _≤_, min}
 use mathlib.Core.Bool.{Bool, true, false}
 use lib.Dec.{eqb}
 use Rattle.exact.specs.Rounding.{ceilDiv}
+use Rattle.refusals.specs.Tables.{firstOf}
+use Rattle.records.specs.House.{answered}
+use Rattle.site.specs.declared.Site.{Site}
 use Rattle.minute.specs.declared.Minute.{Minute}
 use Rattle.tool06.specs.declared.class.Class.{Class}
 use Rattle.tool06.specs.declared.class.Class.the-variants.{Open, Low, Tall}
+use Rattle.tool06.specs.declared.figures.Figures.{Figures}
+use Rattle.tool06.specs.declared.figures.Judged.{Judged}
+use Rattle.tool06.specs.declared.figures.Judged.the-variants.{Accepted, Refused}
+use Rattle.tool06.specs.Class.{classOf}
+use Rattle.tool06.specs.Judged.{judgedLines}
+use Rattle.tool06.specs.Rules.{theRule}
 use Rattle.tool06.specs.Short.{K, K-plus, K-minus, D, F-RG-ng, five-LKf}
 
 abbrev pub choose : Bool → ℕ → ℕ → ℕ
@@ -45,3 +54,18 @@ pub record Measurable (n : Minute) : Type 0 where
   pub weight-within : K (n .gas) ≤ 716000000
   pub oxygen : n .exhaust .oxygen ≤ 209999
   pub methane : n .exhaust .methane ≤ 50000
+
+-- the figures in mg from whole nanograms
+unfoldable pub figuresNg : Site → Minute → Bool → Figures
+figuresNg s n inTime =
+    let k = theRule s n inTime .number in
+    let E = emittedNg (classOf s) k n in
+    record {
+      rule = k;
+      fed = ceilDiv (F-RG-ng n) 1000000;
+      emitted = ceilDiv E 1000000;
+      destroyed = (F-RG-ng n - E) / 1000000;
+    }
+
+unfoldable pub judgedNg : Bool → Site → Minute → Bool → Judged
+judgedNg disordered s n inTime = answered Accepted Refused (figuresNg s n inTime) (firstOf (judgedLines disordered s n))

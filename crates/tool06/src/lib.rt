@@ -7,3 +7,5 @@ mod rule;
 pub use class::Class;
 pub use figures::Figures;
 pub use figures::Judged;
+pub use figures::judge;
+pub use figures::judge_single;

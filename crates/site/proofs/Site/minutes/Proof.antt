@@ -1,12 +1,12 @@
-use Rattle.exact.proofs.Bools.{eqb-yes, eqb-no}
+use borrow.Author.Tests.{eq-eqb, ne-eqb}
 use Rattle.site.proofs.Site.minutes.Statement.{statement}
 use Rattle.site.proofs.Site.minutes.Tie as tie
 
 returns : tie.Need-returns
-returns c = rw (eqb-yes _ _ (c .if1 .taken))
+returns c = rw (eq-eqb _ _ (c .if1 .taken))
 
 returns-2 : tie.Need-returns-2
-returns-2 c = rw (eqb-no _ _ (c .if1 .left))
+returns-2 c = rw (ne-eqb _ _ (c .if1 .left))
 
 pub minutes-spec : {M : Type 1} → statement M
 minutes-spec = tie.close (tie.spec returns returns-2)

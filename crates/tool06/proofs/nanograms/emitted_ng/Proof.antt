@@ -2,7 +2,7 @@ use borrow.Author.Needs.{needs}
 use mathlib.Core.Path.{_≡_, sym, ap, _∙_}
 use Prim.Native.Nat.{ℕ, _*_, _-_, _≤_}
 use native.Mathlib.Omega.{arith}
-use Rattle.exact.proofs.Bools.{eqb-yes, eqb-no}
+use borrow.Author.Tests.{eq-eqb, ne-eqb}
 use Rattle.tool06.specs.Nanograms.{emittedNg}
 use Rattle.tool06.proofs.Sizes.{tenths-within, LKf-within}
 use Rattle.tool06.proofs.nanograms.emitted_ng.Statement.{statement}
@@ -40,13 +40,13 @@ returns : tie.Need-returns
 unfolding emittedNg
 returns c =
     let t = c .before .before .before .before in
-    rw (c .lost-ng .ensures, t .before .lost-tenths .ensures, c .before .five-lkf .ensures, eqb-yes _ _ (t .if1 .taken), t .before .before .pre .0)
+    rw (c .lost-ng .ensures, t .before .lost-tenths .ensures, c .before .five-lkf .ensures, eq-eqb _ _ (t .if1 .taken), t .before .before .pre .0)
 
 returns-2 : tie.Need-returns-2
 unfolding emittedNg
 returns-2 c =
     let t = c .before in
-    rw (c .lost-ng2 .ensures, t .before .lost-tenths .ensures, eqb-no _ _ (t .if1 .left), t .before .before .pre .0)
+    rw (c .lost-ng2 .ensures, t .before .lost-tenths .ensures, ne-eqb _ _ (t .if1 .left), t .before .before .pre .0)
 
 pub emitted-ng-spec : {M : Type 1} → statement M
 emitted-ng-spec =
