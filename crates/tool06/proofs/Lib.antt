@@ -1,6 +1,9 @@
 pub mod Amounts
 pub mod Efficiency
 pub mod Facts
+pub mod Kept
 pub mod Rules
 pub mod Short
 pub mod Sizes
+pub mod Sums
+pub mod Unique

@@ -1,8 +1,10 @@
+pub mod Bounds
 pub mod Class
 pub mod Figures
 pub mod Found
 pub mod Judged
 pub mod Nanograms
+pub mod Promises
 pub mod Rules
 pub mod Short
 pub mod Tool
