@@ -4,6 +4,4 @@ pub mod Facts
 pub mod Kept
 pub mod Rules
 pub mod Short
-pub mod Sizes
 pub mod Sums
-pub mod Unique

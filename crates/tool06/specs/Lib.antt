@@ -1,7 +1,6 @@
 pub mod Bounds
 pub mod Class
 pub mod Figures
-pub mod Found
 pub mod Judged
 pub mod Nanograms
 pub mod Promises

@@ -1,11 +1,7 @@
-// One minute, by the tool.
+// One minute by the tool: the values, the definitions and what follows from them. It has no function.
 mod class;
 mod figures;
-mod nanograms;
-mod rule;
 
 pub use class::Class;
 pub use figures::Figures;
 pub use figures::Judged;
-pub use figures::judge;
-pub use figures::judge_single;

@@ -1,0 +1,75 @@
+// A minute judged at its site.
+ghost use mathlib.Core.Path.{_≡_};
+ghost use Prim.Native.Nat.{_≤_};
+ghost use Rattle.tool06.specs.Judged.{judged, oxygenWrong, beyondYear};
+ghost use Rattle.tool06.specs.Nanograms.{Measurable, figuresNg};
+ghost use Rattle.tool06.specs.Rules.{theRule};
+ghost use Rattle.tool06.specs.Short.{S-negative, F-RG-ng};
+ghost use Rattle.tool06.specs.Tool.{Masses, Positive};
+use crate::nanograms;
+use minute::Gas;
+use minute::Minute;
+use refusals::Refusal;
+use refusals::Verdict;
+use site::Site;
+use tool06::Figures;
+use tool06::Judged;
+
+// Gas that carries too much oxygen for the equations.
+fn s_negative(gas: Gas) -> bool
+    ensures { λ r. ⌜ r ≡ S-negative gas ⌝ }
+{
+    let plus = 8 * gas.ch4 as u64
+        + 2 * gas.co as u64
+        + 2 * gas.h2 as u64
+        + 2 * gas.h2s as u64
+        + 3 * gas.nh3 as u64;
+    plus < 4 * gas.o2 as u64
+}
+
+fn oxygen_wrong(site: Site, minute: Minute) -> bool
+    ensures { λ r. ⌜ r ≡ oxygenWrong site minute ⌝ }
+{
+    let negative = s_negative(minute.gas);
+    (0 < minute.litres)
+        & (site.method == Site::MEASURED)
+        & (minute.flags / Minute::EXHAUST % 2 == 1)
+        & negative
+}
+
+// Of a minute that is accepted.
+fn figures_of(site: Site, minute: Minute, in_time: bool) -> Figures
+    requires { ⌜ (F-RG-ng minute ≤ 71600000000000) × (minute .exhaust .oxygen ≤ 209999) × (theRule site minute in_time .number ≡ 9 → Measurable minute) ⌝ }
+    ensures { λ r. ⌜ r ≡ figuresNg site minute in_time ⌝ }
+{
+    let class = rules::class_of(site);
+    let rule = rules::rule_of(site, minute, in_time);
+    let fed = nanograms::fed_ng(minute);
+    let emitted = nanograms::emitted_ng(class, rule, minute, fed);
+    Figures {
+        rule: rule,
+        fed: nanograms::ceil_div(fed, Figures::NANOGRAMS),
+        emitted: nanograms::ceil_div(emitted, Figures::NANOGRAMS),
+        destroyed: (fed - emitted) / Figures::NANOGRAMS,
+    }
+}
+
+// The figures, or the first of the refusals 3 to 9 and 12 to 19, with 13 where the minute is out of order.
+pub fn judge(site: Site, minute: Minute, disordered: bool, in_time: bool) -> Judged
+    ensures { λ r. ⌜ ((m : Masses) → Positive m → r ≡ judged m disordered site minute in_time) ⌝ }
+{
+    let verdict = site.verdict()
+        .then(minute.verdict(disordered))
+        .also(oxygen_wrong(site, minute), Refusal::Oxygen);
+    match verdict {
+        Verdict::Refuse(r) => Judged::Refused(r),
+        Verdict::Fine => Judged::Accepted(figures_of(site, minute, in_time)),
+    }
+}
+
+// The same of a single minute, which is out of order where its year does not have it.
+pub fn judge_single(site: Site, minute: Minute, in_time: bool) -> Judged
+    ensures { λ r. ⌜ ((m : Masses) → Positive m → r ≡ judged m (beyondYear site minute) site minute in_time) ⌝ }
+{
+    judge(site, minute, site.minutes() <= minute.number, in_time)
+}
