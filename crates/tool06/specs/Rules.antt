@@ -40,15 +40,15 @@ lowered Tall η = η
 abbrev pub nothing : Masses → Frac
 nothing m = whole 0
 
--- paragraph 19: open
+-- paragraph 19
 abbrev pub half : Masses → Frac
 half m = whole 1 ⊘ whole 2
 
--- paragraph 22: "9/10, low 8/10"
+-- paragraphs 22 and 24
 abbrev pub byDefault : Site → Masses → Frac
 byDefault s m = lowered (classOf s) (whole 9 ⊘ whole 10)
 
--- paragraph 29: "one less F_EG/F_RG, low 1/10 less again, never below 0"
+-- paragraphs 29 and 38; document 01: "never below 0"
 abbrev pub measured : Site → Minute → Masses → Frac
 measured s n m = at-least-zero (lowered (classOf s) (η-calc m n))
 
@@ -59,20 +59,29 @@ temperatureUnfit s n = outsideZ (s .temperature .lowest) (s .temperature .highes
 abbrev pub flowUnfit : Site → Minute → Bool
 flowUnfit s n = outside (s .flow .lowest) (s .flow .highest) (n .litres)
 
--- "0 no gas. 1 no flame. 2 open. 4 temperature missing. 5 temperature outside the specification. 6 flow outside it. 3 default method. 7 maintenance overdue. 8 exhaust readings missing."
+-- in the document's order, in which 3 stands after 6
 unfoldable pub ruleLines : Site → Minute → Bool → List RuleLine
 ruleLines s n inTime =
+    -- "no gas (0 litres)": no methane, so that any efficiency gives the same
     when (not (hasGas n)) (rule 0 nothing)
+    -- "no flame: 0"
     ∷ when (not (flameSeen n)) (rule 1 nothing)
+    -- "open: 1/2"
     ∷ when (isOpen s) (rule 2 half)
+    -- "temperature missing: 0"
     ∷ when (not (temperaturePresent n)) (rule 4 nothing)
+    -- "temperature outside the specification: 0"
     ∷ when (temperatureUnfit s n) (rule 5 nothing)
+    -- "flow outside it: 0"
     ∷ when (flowUnfit s n) (rule 6 nothing)
+    -- "default method: 9/10, low 8/10"
     ∷ when (isDefault s) (rule 3 (byDefault s))
+    -- "maintenance overdue: 0"
     ∷ when (not inTime) (rule 7 nothing)
+    -- "exhaust readings missing: 0"
     ∷ when (not (exhaustPresent n)) (rule 8 nothing)
     ∷ []
 
--- ".. 9 measured"
+-- "measured: one less F_EG/F_RG, low 1/10 less again, never below 0"
 unfoldable pub theRule : Site → Minute → Bool → Rule
 theRule s n inTime = first (ruleLines s n inTime) (rule 9 (measured s n))
