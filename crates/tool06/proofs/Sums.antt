@@ -15,7 +15,7 @@ use Rattle.refusals.specs.Tables.{firstOf}
 use Rattle.site.specs.declared.Site.{Site}
 use Rattle.minute.specs.Rules.{hasGas}
 use Rattle.minute.specs.declared.Minute.{Minute}
-use Rattle.tool06.specs.Bounds.{Bounds, Entry, Accepted, start, next, one, total, exactTotal, BoundsOf, DemandThree}
+use Rattle.tool06.specs.Bounds.{Bounds, Accepted, start, next, oneIf, OneMinute, DemandThree}
 use Rattle.tool06.specs.Figures.{mg, η, exactFed, exactEmitted, exactDestroyed, figures}
 use Rattle.tool06.specs.Tool.{Masses, Positive, F-CH4-RG}
 use Rattle.tool06.proofs.Amounts.{P, q, q-pos, emitted-exact, destroyed-exact, fed-zero, emitted-zero, destroyed-zero}
@@ -112,7 +112,7 @@ module _ (m : Masses) (pos : Positive m) {s : Site} {n : Minute} (f : Facts s n)
   abbrev OfMinute : ℕ → Type 0
   OfMinute N = Bounds N (figures m s n inTime .fed) (figures m s n inTime .emitted) (figures m s n inTime .destroyed) (exactEmitted m s n inTime) (exactDestroyed m s n inTime)
 
-  by-gas : (gas : Bool) → hasGas n ≡ gas → OfMinute (one gas)
+  by-gas : (gas : Bool) → hasGas n ≡ gas → OfMinute (oneIf gas)
   unfolding figures
   by-gas true gas =
       let X = exactEmitted m s n inTime in
@@ -131,11 +131,10 @@ module _ (m : Masses) (pos : Positive m) {s : Site} {n : Minute} (f : Facts s n)
       }
   by-gas false none = rw (fed-zero m s n none inTime, emitted-zero m s n none inTime, destroyed-zero m s n none inTime, up-none, down-none) no-bounds
 
-  pub minute-bounds : OfMinute (one (hasGas n))
-  minute-bounds = by-gas (hasGas n) refl
+pub one-minute : OneMinute
+one-minute m pos e fine = by-gas m pos (facts false (e .site) (e .minute) fine) (e .inTime) (hasGas (e .minute)) refl
 
 -- any list of minutes
 pub demand-three : DemandThree
 demand-three m pos [] start = no-bounds
-demand-three m pos (e ∷ es) (next fine rest) =
-    bounds-add (minute-bounds m pos (facts false (e .site) (e .minute) fine) (e .inTime)) (demand-three m pos es rest)
+demand-three m pos (e ∷ es) (next fine rest) = bounds-add (one-minute m pos e fine) (demand-three m pos es rest)
