@@ -1,7 +1,7 @@
 use Prim.Native.Nat.{_≤_}
 use borrow.Author.Needs.{needs}
-use Rattle.edges.proofs.layout.put.Statement.{statement}
-use Rattle.edges.proofs.layout.put.Tie as tie
+use Rattle.record_edges.proofs.layout.put.Statement.{statement}
+use Rattle.record_edges.proofs.layout.put.Tie as tie
 
 abbrev Inv-loop : tie.InvT-loop
 Inv-loop bytes₀ value first end₀ rest₀ bytes end rest = end ≤ 256

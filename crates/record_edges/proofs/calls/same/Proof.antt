@@ -1,7 +1,7 @@
 use Prim.Native.Nat.{_≤_, _-_}
 use borrow.Author.Needs.{needs}
-use Rattle.edges.proofs.calls.same.Statement.{statement}
-use Rattle.edges.proofs.calls.same.Tie as tie
+use Rattle.record_edges.proofs.calls.same.Statement.{statement}
+use Rattle.record_edges.proofs.calls.same.Tie as tie
 
 abbrev Inv-loop : tie.InvT-loop
 Inv-loop a b n k₀ k = k ≤ 64

@@ -1,16 +1,16 @@
 use Prim.Native.Nat.{_≤_, _-_}
 use borrow.Author.Needs.{needs}
-use Rattle.edges.proofs.tally.refusals.Statement.{statement}
-use Rattle.edges.proofs.tally.refusals.Tie as tie
+use Rattle.record_edges.proofs.damage.with_byte.Statement.{statement}
+use Rattle.record_edges.proofs.damage.with_byte.Tie as tie
 
 abbrev Inv-loop : tie.InvT-loop
-Inv-loop counts n₀ n = n ≤ 23
+Inv-loop good k tally₀ v₀ tally v = v ≤ 5
 
 abbrev μ-loop : tie.MeasureT-loop
-μ-loop counts n₀ n = 23 - n
+μ-loop good k tally₀ v₀ tally v = 5 - v
 
-pub refusals-spec : {M : Type 1} → statement M
-refusals-spec =
+pub with-byte-spec : {M : Type 1} → statement M
+with-byte-spec =
     tie.close
     (tie.spec
     Inv-loop

@@ -1,7 +1,7 @@
 use Prim.Native.Nat.{_≤_, _-_}
 use borrow.Author.Needs.{needs}
-use Rattle.edges.proofs.damage.tally_of_lengths.Statement.{statement}
-use Rattle.edges.proofs.damage.tally_of_lengths.Tie as tie
+use Rattle.record_edges.proofs.damage.tally_of_lengths.Statement.{statement}
+use Rattle.record_edges.proofs.damage.tally_of_lengths.Tie as tie
 
 abbrev Inv-loop : tie.InvT-loop
 Inv-loop good bytes tally₀ n₀ tally n = n ≤ 61
