@@ -6,12 +6,12 @@ mod damage;
 mod frame;
 mod headings;
 mod layout;
-mod minutes;
+pub mod minutes;
 mod pairs;
 mod record;
-mod say;
+pub mod say;
 mod signed;
-mod sites;
+pub mod sites;
 mod tally;
 
 pub fn print() {

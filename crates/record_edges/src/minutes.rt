@@ -1,7 +1,7 @@
 // The minute record.
 pub mod broken;
 mod damaged;
-mod gas;
+pub mod gas;
 pub mod layout;
 mod ranges;
 

@@ -65,7 +65,7 @@ fn no_gas() {
     with_gas(0, each(4_294_967_295));
 }
 
-fn each(ppm: u32) -> Gas {
+pub fn each(ppm: u32) -> Gas {
     Gas {
         ch4: ppm,
         co: ppm,
@@ -84,10 +84,11 @@ fn with_gas(litres: u32, gas: Gas) {
     minute.gas = gas;
     say::number(b"litres ", litres as u64);
     fractions(gas);
+    say::number(b", sum ", sum(gas));
     Record::Minute(minute).print_answers();
 }
 
-fn fractions(gas: Gas) {
+pub fn fractions(gas: Gas) {
     say::number(b", CH4 ", gas.ch4 as u64);
     present(b", CO ", gas.co);
     present(b", CO2 ", gas.co2);
@@ -96,7 +97,6 @@ fn fractions(gas: Gas) {
     present(b", H2S ", gas.h2s);
     present(b", NH3 ", gas.nh3);
     present(b", N2 ", gas.n2);
-    say::number(b", sum ", sum(gas));
 }
 
 fn present(name: &[u8], ppm: u32) {
