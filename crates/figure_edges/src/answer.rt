@@ -1,5 +1,5 @@
 // What the library answers, at the end of a line.
-use record_edges::say;
+use samples::say;
 use tool06::Figures;
 use tool06::Judged;
 

@@ -2,8 +2,8 @@
 use minute::Gas;
 use minute::Minute;
 use minute::Readings;
-use record_edges::minutes;
-use record_edges::minutes::gas;
+use samples::gas;
+use samples::minutes;
 
 pub fn exhaust(oxygen: u32, methane: u32) -> Minute {
     let readings = Readings {
@@ -26,7 +26,7 @@ pub fn litres(litres: u32, ch4: u32, n2: u32, methane: u32) -> Minute {
     minute
 }
 
-// A tenth of methane, another gas, and oxygen that it may be too little for.
+// The methane and the other gas set how much oxygen is too much.
 pub fn oxygen(other: Gas, o2: u32, n2: u32) -> Minute {
     let mut gas = other;
     gas.ch4 = 100_000;

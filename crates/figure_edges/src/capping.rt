@@ -3,8 +3,7 @@ use crate::burnt;
 use crate::case::Case;
 use crate::flares::LOW;
 use crate::flares::TALL;
-use crate::flares::flare;
-use record_edges::say;
+use samples::say;
 use site::Site;
 
 // At this oxygen the efficiency of G is just 0 at whole numbers of mg/m3.
@@ -23,8 +22,5 @@ pub fn print() {
 }
 
 fn measured(height: u32, methane: u32) {
-    Case::of(
-        flare(height, Site::MEASURED),
-        burnt::exhaust(OXYGEN, methane),
-    ).print();
+    Case::at(height, Site::MEASURED, burnt::exhaust(OXYGEN, methane)).print();
 }

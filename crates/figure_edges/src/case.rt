@@ -2,8 +2,8 @@
 use crate::answer;
 use crate::flares;
 use minute::Minute;
-use record_edges::minutes::gas;
-use record_edges::say;
+use samples::gas;
+use samples::say;
 use site::Site;
 use tool06::Figures;
 use tool06::Judged;
@@ -15,9 +15,9 @@ pub struct Case {
 }
 
 impl Case {
-    pub fn of(site: Site, minute: Minute) -> Case {
+    pub fn at(height: u32, method: u8, minute: Minute) -> Case {
         Case {
-            site: site,
+            site: flares::flare(height, method),
             minute: minute,
             in_time: true,
         }

@@ -1,7 +1,7 @@
 // The class of a flare, beside both of its borders.
 use crate::flares;
 use crate::flares::flare;
-use record_edges::say;
+use samples::say;
 use site::Site;
 
 pub fn print() {

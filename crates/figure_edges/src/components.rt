@@ -2,10 +2,9 @@
 use crate::burnt;
 use crate::case::Case;
 use crate::flares::TALL;
-use crate::flares::flare;
 use minute::Gas;
-use record_edges::minutes::gas;
-use record_edges::say;
+use samples::gas;
+use samples::say;
 use site::Site;
 
 const HALF: u32 = Gas::WHOLE / 2;
@@ -41,5 +40,5 @@ fn beside_methane(other: Gas) {
     gas.ch4 = HALF;
     let mut minute = burnt::exhaust(90_000, 1_000);
     minute.gas = gas;
-    Case::of(flare(TALL, Site::MEASURED), minute).print();
+    Case::at(TALL, Site::MEASURED, minute).print();
 }

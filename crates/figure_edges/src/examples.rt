@@ -4,11 +4,10 @@ use crate::case::Case;
 use crate::flares::LOW;
 use crate::flares::OPEN;
 use crate::flares::TALL;
-use crate::flares::flare;
 use minute::Minute;
-use record_edges::minutes;
-use record_edges::minutes::gas;
-use record_edges::say;
+use samples::gas;
+use samples::minutes;
+use samples::say;
 use site::Site;
 use tool06::Figures;
 
@@ -19,28 +18,46 @@ pub fn print() {
 }
 
 fn not_measured() {
-    let open = flare(OPEN, Site::DEFAULT);
-    let tall = flare(TALL, Site::DEFAULT);
     let g = minutes::good();
     let litre = burnt::litres(1, 500_001, 499_999, 100);
-    Case::of(open, g).print();
-    Case::of(open, g).with(Figures::NO_FLAME).print();
-    Case::of(tall, g).print();
-    Case::of(flare(LOW, Site::DEFAULT), g).print();
-    Case::of(open, litre).print();
-    Case::of(tall, litre).print();
+    Case::at(OPEN, Site::DEFAULT, g).print();
+    Case::at(OPEN, Site::DEFAULT, g)
+        .with(Figures::NO_FLAME)
+        .print();
+    Case::at(TALL, Site::DEFAULT, g).print();
+    Case::at(LOW, Site::DEFAULT, g).print();
+    Case::at(OPEN, Site::DEFAULT, litre).print();
+    Case::at(TALL, Site::DEFAULT, litre).print();
 }
 
 // The last four: S is 0, then just below; the exhaust has less oxygen than air, then as much.
 fn measured() {
-    let tall = flare(TALL, Site::MEASURED);
-    let low = flare(LOW, Site::MEASURED);
-    Case::of(tall, burnt::exhaust(90_000, 100)).print();
-    Case::of(low, burnt::exhaust(90_000, 100)).print();
-    Case::of(tall, burnt::exhaust(90_000, Minute::MOST_METHANE)).print();
-    Case::of(low, burnt::exhaust(90_000, 40_000)).print();
-    Case::of(tall, burnt::oxygen(gas::each(0), 200_000, 700_000)).print();
-    Case::of(tall, burnt::oxygen(gas::each(0), 200_001, 699_999)).print();
-    Case::of(tall, burnt::exhaust(Minute::MOST_OXYGEN, 100)).print();
-    Case::of(tall, burnt::exhaust(Figures::AIR_OXYGEN, 100)).print();
+    Case::at(TALL, Site::MEASURED, burnt::exhaust(90_000, 100)).print();
+    Case::at(LOW, Site::MEASURED, burnt::exhaust(90_000, 100)).print();
+    Case::at(
+        TALL,
+        Site::MEASURED,
+        burnt::exhaust(90_000, Minute::MOST_METHANE),
+    ).print();
+    Case::at(LOW, Site::MEASURED, burnt::exhaust(90_000, 40_000)).print();
+    Case::at(
+        TALL,
+        Site::MEASURED,
+        burnt::oxygen(gas::each(0), 200_000, 700_000),
+    ).print();
+    Case::at(
+        TALL,
+        Site::MEASURED,
+        burnt::oxygen(gas::each(0), 200_001, 699_999),
+    ).print();
+    Case::at(
+        TALL,
+        Site::MEASURED,
+        burnt::exhaust(Minute::MOST_OXYGEN, 100),
+    ).print();
+    Case::at(
+        TALL,
+        Site::MEASURED,
+        burnt::exhaust(Figures::AIR_OXYGEN, 100),
+    ).print();
 }

@@ -2,9 +2,8 @@
 use crate::answer;
 use crate::case::Case;
 use crate::flares::TALL;
-use crate::flares::flare;
-use record_edges::minutes;
-use record_edges::say;
+use samples::minutes;
+use samples::say;
 use site::Site;
 use tool06::Figures;
 
@@ -34,13 +33,13 @@ pub fn print() {
 
 fn one(rule: u8, name: &[u8]) {
     say::text(name);
-    let case = Case::of(flare(TALL, Site::MEASURED), minutes::good());
+    let case = Case::at(TALL, Site::MEASURED, minutes::good());
     answer::print(case.with(rule).judge());
 }
 
 fn both(first: u8, second: u8) {
     say::number(b"rules ", first as u64);
     say::number(b" and ", second as u64);
-    let case = Case::of(flare(TALL, Site::MEASURED), minutes::good());
+    let case = Case::at(TALL, Site::MEASURED, minutes::good());
     answer::print(case.with(first).with(second).judge());
 }

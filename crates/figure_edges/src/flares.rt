@@ -1,6 +1,6 @@
 // The flares that the lines stand for, and their names.
-use record_edges::say;
-use record_edges::sites;
+use samples::say;
+use samples::sites;
 use site::Flows;
 use site::Site;
 use site::Temperatures;

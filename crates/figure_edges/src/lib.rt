@@ -15,12 +15,16 @@ mod oxygen;
 mod rounding;
 mod specification;
 
-use record_edges::say;
+use samples::say;
 
 pub fn print() {
     say::text(
-        b"\nBelow, an answer is the rule that decides a minute and its methane in mg, or a refusal.\nWhere a line names nothing else, the flame is seen, temperature and flow are inside the\nspecification, the readings are present and maintenance is in time.\n",
+        b"\nBelow, an answer is the rule that decides a minute and its methane in mg, or a refusal.\n",
     );
+    say::text(
+        b"Where a line names nothing else, the flame is seen, temperature and flow are inside the\n",
+    );
+    say::text(b"specification, the readings are present and maintenance is in time.\n");
     classes::print();
     examples::print();
     first_rule::print();

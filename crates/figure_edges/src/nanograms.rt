@@ -3,18 +3,17 @@ use crate::burnt;
 use crate::case::Case;
 use crate::flares::LOW;
 use crate::flares::TALL;
-use crate::flares::flare;
-use record_edges::minutes::gas;
-use record_edges::say;
+use samples::gas;
+use samples::say;
 use site::Site;
 
 // The three litres hold four nanograms above 770 mg, so a tenth is just above 77 and two tenths just above 154.
 pub fn print() {
     say::text(b"\nQ. Emitted a whole mg, or less than a nanogram above it\n");
     let three = burnt::litres(3, 358_473, 641_527, 0);
-    Case::of(flare(TALL, Site::DEFAULT), three).print();
-    Case::of(flare(LOW, Site::DEFAULT), three).print();
-    Case::of(flare(LOW, Site::MEASURED), three).print();
+    Case::at(TALL, Site::DEFAULT, three).print();
+    Case::at(LOW, Site::DEFAULT, three).print();
+    Case::at(LOW, Site::MEASURED, three).print();
     litre(TALL, 0, 500_000, 120);
     litre(TALL, 1, 499_999, 120);
     litre(LOW, 0, 500_000, 24);
@@ -29,5 +28,5 @@ fn litre(height: u32, co: u32, co2: u32, methane: u32) {
     let mut minute = burnt::exhaust(90_000, methane);
     minute.litres = 1;
     minute.gas = gas;
-    Case::of(flare(height, Site::MEASURED), minute).print();
+    Case::at(height, Site::MEASURED, minute).print();
 }

@@ -4,10 +4,10 @@ use crate::burnt;
 use crate::flares::TALL;
 use crate::flares::flare;
 use minute::Minute;
-use record_edges::minutes;
-use record_edges::minutes::gas;
-use record_edges::say;
-use record_edges::sites;
+use samples::gas;
+use samples::minutes;
+use samples::say;
+use samples::sites;
 use site::Site;
 
 pub fn print() {

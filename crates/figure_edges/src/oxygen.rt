@@ -2,10 +2,9 @@
 use crate::burnt;
 use crate::case::Case;
 use crate::flares::TALL;
-use crate::flares::flare;
 use minute::Gas;
-use record_edges::minutes::gas;
-use record_edges::say;
+use samples::gas;
+use samples::say;
 use site::Site;
 use tool06::Figures;
 
@@ -35,7 +34,7 @@ pub fn print() {
 // Without a flame the efficiency is 0, and still the minute is refused.
 fn places() {
     let minute = burnt::oxygen(gas::each(0), 200_001, 699_999);
-    let case = Case::of(flare(TALL, Site::MEASURED), minute);
+    let case = Case::at(TALL, Site::MEASURED, minute);
     case.print();
     case.with(Figures::NO_FLAME).print();
     case.with(Figures::DEFAULT).print();
@@ -44,5 +43,5 @@ fn places() {
 }
 
 fn border(other: Gas, o2: u32, n2: u32) {
-    Case::of(flare(TALL, Site::MEASURED), burnt::oxygen(other, o2, n2)).print();
+    Case::at(TALL, Site::MEASURED, burnt::oxygen(other, o2, n2)).print();
 }

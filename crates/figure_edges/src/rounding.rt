@@ -4,8 +4,7 @@ use crate::case::Case;
 use crate::flares::LOW;
 use crate::flares::OPEN;
 use crate::flares::TALL;
-use crate::flares::flare;
-use record_edges::say;
+use samples::say;
 use site::Site;
 
 pub fn print() {
@@ -28,12 +27,9 @@ pub fn print() {
 }
 
 fn default(height: u32, ch4: u32, n2: u32) {
-    Case::of(flare(height, Site::DEFAULT), burnt::litres(1, ch4, n2, 100)).print();
+    Case::at(height, Site::DEFAULT, burnt::litres(1, ch4, n2, 100)).print();
 }
 
 fn measured(height: u32, ch4: u32, n2: u32, methane: u32) {
-    Case::of(
-        flare(height, Site::MEASURED),
-        burnt::litres(1, ch4, n2, methane),
-    ).print();
+    Case::at(height, Site::MEASURED, burnt::litres(1, ch4, n2, methane)).print();
 }

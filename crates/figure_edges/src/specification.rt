@@ -2,8 +2,8 @@
 use crate::answer;
 use crate::flares::TALL;
 use crate::flares::flare;
-use record_edges::minutes;
-use record_edges::say;
+use samples::minutes;
+use samples::say;
 use site::Flows;
 use site::Site;
 use site::Temperatures;

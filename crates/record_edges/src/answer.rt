@@ -1,5 +1,5 @@
 // What a call of the library comes to.
-use crate::say;
+use samples::say;
 
 pub enum Answer {
     Accepted,

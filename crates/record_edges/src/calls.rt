@@ -3,10 +3,10 @@ ghost use Prim.Native.Nat.{_≤_};
 use crate::answer::Answer;
 use crate::layout::ROOM;
 use crate::record::Record;
-use crate::say;
 use minute::Minute;
 use minute::MinuteRead;
 use refusals::Verdict;
+use samples::say;
 use site::Site;
 use site::SiteRead;
 

@@ -5,8 +5,8 @@ use crate::layout::Place;
 use crate::layout::ROOM;
 use crate::layout::VERSION;
 use crate::record::Record;
-use crate::say;
 use crate::tally::Tally;
+use samples::say;
 
 const LONGEST: usize = 60;
 

@@ -6,7 +6,7 @@ use crate::layout::Place;
 use crate::layout::VERSION;
 use crate::layout::put;
 use crate::record::Record;
-use crate::say;
+use samples::say;
 
 pub fn print(record: Record) {
     let size = record.size();

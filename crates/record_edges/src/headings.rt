@@ -1,5 +1,5 @@
 // The headings that both records' sections share.
-use crate::say;
+use samples::say;
 
 pub fn ranges(record: &[u8]) {
     heading(record, b": the ends of every range\n");

@@ -1,5 +1,5 @@
 // Document 01's layout of bytes, without the library.
-use crate::signed::magnitude;
+use samples::signed::magnitude;
 
 // Room for either record and some bytes more.
 pub const ROOM: usize = 64;

@@ -6,13 +6,13 @@ mod damage;
 mod frame;
 mod headings;
 mod layout;
-pub mod minutes;
+mod minutes;
 mod pairs;
 mod record;
-pub mod say;
-mod signed;
-pub mod sites;
+mod sites;
 mod tally;
+
+use samples::say;
 
 pub fn print() {
     say::text(b"An answer is the word accepted, or the number of a refusal in document 01.\n");

@@ -3,7 +3,7 @@ use crate::answer::Answer;
 use crate::layout::VERSION;
 use crate::layout::put;
 use crate::record::Record;
-use crate::say;
+use samples::say;
 
 // The fields' refusals run from first to last.
 pub fn print(good: Record, first: u8, last: u8) {

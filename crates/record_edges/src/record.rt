@@ -33,8 +33,11 @@ impl Record {
     // The fields, changed so that document 01 refuses them by that number.
     pub fn broken(self, rule: u8) -> Record {
         match self {
-            Record::Site(site) => Record::Site(sites::broken::broken(site, rule)),
-            Record::Minute(minute) => Record::Minute(minutes::broken::broken(minute, rule)),
+            Record::Site(site) => Record::Site(samples::sites::broken::broken(site, rule)),
+            Record::Minute(minute) => Record::Minute(samples::minutes::broken::broken(
+                minute,
+                rule,
+            )),
         }
     }
 }

@@ -1,5 +1,4 @@
 // The site record.
-pub mod broken;
 mod damaged;
 pub mod layout;
 mod ranges;
@@ -8,31 +7,7 @@ use crate::frame;
 use crate::headings;
 use crate::pairs;
 use crate::record::Record;
-use site::Flows;
-use site::Site;
-use site::Temperatures;
-
-// A tall enclosed flare under the measured method.
-pub fn good() -> Site {
-    let temperature = Temperatures {
-        lowest: 5_000,
-        highest: 12_000,
-    };
-    let flow = Flows {
-        lowest: 100,
-        highest: 50_000,
-    };
-    Site {
-        method: 1,
-        year: 2027,
-        gwp: 28,
-        height: 10_001,
-        diameter: 1_000,
-        temperature: temperature,
-        flow: flow,
-        days: 365,
-    }
-}
+use samples::sites::good;
 
 pub fn print() {
     let record = Record::Site(good());

@@ -1,6 +1,6 @@
 // How often each answer came.
 use crate::answer::Answer;
-use crate::say;
+use samples::say;
 
 // Slot 0 counts the accepted, 1 to 22 the refusals by their numbers, the last one what changed.
 const SLOTS: usize = 24;

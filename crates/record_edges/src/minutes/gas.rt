@@ -1,8 +1,10 @@
 // The ends of the rules for a minute's eight fractions.
-use crate::minutes::good;
 use crate::record::Record;
-use crate::say;
 use minute::Gas;
+use samples::gas::each;
+use samples::gas::fractions;
+use samples::minutes::good;
+use samples::say;
 
 const LITRES: u32 = 1_000;
 
@@ -65,19 +67,6 @@ fn no_gas() {
     with_gas(0, each(4_294_967_295));
 }
 
-pub fn each(ppm: u32) -> Gas {
-    Gas {
-        ch4: ppm,
-        co: ppm,
-        co2: ppm,
-        o2: ppm,
-        h2: ppm,
-        h2s: ppm,
-        nh3: ppm,
-        n2: ppm,
-    }
-}
-
 fn with_gas(litres: u32, gas: Gas) {
     let mut minute = good();
     minute.litres = litres;
@@ -86,23 +75,6 @@ fn with_gas(litres: u32, gas: Gas) {
     fractions(gas);
     say::number(b", sum ", sum(gas));
     Record::Minute(minute).print_answers();
-}
-
-pub fn fractions(gas: Gas) {
-    say::number(b", CH4 ", gas.ch4 as u64);
-    present(b", CO ", gas.co);
-    present(b", CO2 ", gas.co2);
-    present(b", O2 ", gas.o2);
-    present(b", H2 ", gas.h2);
-    present(b", H2S ", gas.h2s);
-    present(b", NH3 ", gas.nh3);
-    present(b", N2 ", gas.n2);
-}
-
-fn present(name: &[u8], ppm: u32) {
-    if 0 < ppm {
-        say::number(name, ppm as u64);
-    }
 }
 
 fn sum(gas: Gas) -> u64 {

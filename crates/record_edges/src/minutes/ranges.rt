@@ -1,8 +1,8 @@
 // The ends of the ranges of a minute's fields, but for its gas.
-use crate::minutes::good;
 use crate::record::Record;
-use crate::say;
 use minute::Readings;
+use samples::minutes::good;
+use samples::say;
 
 // Bit 0 flame seen, bit 1 temperature present, bit 2 exhaust readings present.
 const ALL: u8 = 7;

@@ -1,7 +1,7 @@
 // The ends of the ranges of a site's fields.
 use crate::record::Record;
-use crate::say;
-use crate::sites::good;
+use samples::say;
+use samples::sites::good;
 use site::Flows;
 use site::Temperatures;
 

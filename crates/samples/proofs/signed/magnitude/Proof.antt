@@ -8,8 +8,8 @@ use mir.Val.{toZ, ofZ}
 use mir.ValLaws.{toZ-ofZ, toZ-pos, ofZ-fits}
 use mir.Syntax.{w16}
 use Rattle.records.proofs.Complement.{flipped, plain, plain-bits}
-use Rattle.record_edges.proofs.signed.magnitude.Statement.{statement}
-use Rattle.record_edges.proofs.signed.magnitude.Tie as tie
+use Rattle.samples.proofs.signed.magnitude.Statement.{statement}
+use Rattle.samples.proofs.signed.magnitude.Tie as tie
 
 -- what -1 - n is for n below 0
 less-one : (c : tie.Then1) → negsuc 0 -ℤ toZ w16 (ofZ w16 (c .before .args .n)) ≡ pos (mag (c .before .args .n))
