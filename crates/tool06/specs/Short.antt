@@ -1,4 +1,5 @@
 -- Document 01, "The measured equations": the short form, in whole numbers.
+-- Of whole numbers, x - y is 0 where y is larger; K and D are used only where they are positive.
 use Prim.Native.Nat.{ℕ, _+_, _-_, _*_}
 use mathlib.Core.Bool.{Bool}
 use lib.Dec.{ltb}
