@@ -12,8 +12,8 @@ use native.Mathlib.Omega.{arith}
 use lib.Dec.{T, T-prop, T-not, not-T, leb, leb→le, le→leb}
 use Rattle.exact.specs.Parts.{Parts, Same, parts-le, parts-whole, parts-add, parts-mul, parts-neg, inv-by, parts-inv}
 use Rattle.exact.specs.PartsLaws.{PartsLe, times}
-use Rattle.exact.specs.Fractions.{Frac, le-test, _≼_, _≺_, _⊕_, _⊖_, _⊗_, _⊘_, neg, inv, whole}
-use Rattle.exact.proofs.Fractions.{⊕-comm, ⊕-zero, ⊗-assoc, ⊗-comm, ⊗-one, ⊗-zero}
+use Rattle.exact.specs.Fractions.{Frac, le-test, _≼_, _≺_, _⊕_, _⊖_, _⊗_, neg, inv, whole}
+use Rattle.exact.proofs.Fractions.{⊕-comm}
 
 not-leb : (m n : ℕ) → T (not (leb m n)) → n < m
 not-leb m n t = let h : ¬ (m ≤ n) = λ l. T-not (leb m n) t (le→leb m n l) in omega arith
@@ -67,9 +67,6 @@ pub ≺-≼ : (x y : Frac) → x ≺ y → x ≼ y
 unfolding le-test
 ≺-≼ x y = induction-on₂ (λ x y. Π-prop {A = x ≺ y} (λ h. T-prop (le-test x y))) x y
     (λ a b h. let h' : PartsLt a b = told-lt a b h in tell-le a b (omega arith))
-
-pub ≼-≺-trans : (x y z : Frac) → x ≼ y → y ≺ z → x ≺ z
-≼-≺-trans x y z h k = not-T (le-test z x) (λ t. T-not (le-test z y) k (≼-trans z x y t h))
 
 pub ≺-≼-trans : (x y z : Frac) → x ≺ y → y ≼ z → x ≺ z
 ≺-≼-trans x y z h k = not-T (le-test z x) (λ t. T-not (le-test y x) h (≼-trans y z x k t))
@@ -146,24 +143,6 @@ unfolding le-test whole _⊗_
     let h' : PartsLe (parts-whole 0) a = told-le (parts-whole 0) a h in
     let k' : PartsLe (parts-whole 0) b = told-le (parts-whole 0) b k in
     tell-le (parts-whole 0) (parts-mul a b) (parts-nonneg-mul a b (omega arith) (omega arith)))
-
-pub ⊖-nonneg : (x y : Frac) → x ≼ y → whole 0 ≼ y ⊖ x
-unfolding le-test whole _⊖_ _⊕_ neg
-⊖-nonneg x y = induction-on₂ (λ x y. Π-prop {A = x ≼ y} (λ h. T-prop (le-test (whole 0) (y ⊖ x)))) x y
-    (λ a b h.
-    let h' : PartsLe a b = told-le a b h in
-    tell-le (parts-whole 0) (parts-add b (parts-neg a)) (omega arith))
-
--- taking away what is not below zero gives no more
-pub ⊖-below : (x y : Frac) → whole 0 ≼ y → x ⊖ y ≼ x
-unfolding le-test whole _⊖_ _⊕_ neg
-⊖-below x y = induction-on₂ (λ x y. Π-prop {A = whole 0 ≼ y} (λ h. T-prop (le-test (x ⊖ y) x))) x y
-    (λ a b h.
-    let h' : PartsLe (parts-whole 0) b = told-le (parts-whole 0) b h in
-    tell-le (parts-add a (parts-neg b)) a (less a b (omega arith)))
-  where
-    less : (a b : Parts) → b .down ≤ b .up → PartsLe (parts-add a (parts-neg b)) a
-    less a b l = omega (arith, mul-le-mul-right (a .over * a .over) l)
 
 -- the sign of (a - b) t, for t above zero
 parts-sign-le : (a b : ℕ) (t : Parts) → t .down < t .up → PartsLe (parts-whole 0) (parts-mul (parts-add (parts-whole a) (parts-neg (parts-whole b))) t) ↔ (b ≤ a)

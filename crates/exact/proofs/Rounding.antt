@@ -78,9 +78,6 @@ ceil-min p d F h =
 pub ceil-le-self : (x a : ℕ) → 0 < a → ceilDiv x a ≤ x
 ceil-le-self x a h = ceil-le x a x h .1 (omega (arith, mul-le-mul-left x h))
 
-pub ceil-one : (x : ℕ) → ceilDiv x 1 ≡ x
-ceil-one x = sym (ceil-unique x 1 x (omega arith) (λ c. (λ h. omega arith, λ h. omega arith)))
-
 -- a whole number comes out of a rounding up
 pub ceil-plus : (x n a : ℕ) → 0 < a → ceilDiv (x + n * a) a ≡ ceilDiv x a + n
 ceil-plus x n a h = sym (ceil-unique (x + n * a) a (ceilDiv x a + n) h (λ c. (there c, back c)))

@@ -1,6 +1,5 @@
 -- How large the numbers of the code become, and that none overflows.
-use mathlib.Core.Path.{_≡_}
-use Prim.Native.Nat.{ℕ, _+_, _*_, _/_, _%_, _≤_}
+use Prim.Native.Nat.{ℕ, _*_, _/_, _%_, _≤_}
 use mathlib.Core.Bool.{Bool, true, false}
 use lib.Dec.{eqb}
 use native.Mathlib.Omega.{arith}

@@ -7,7 +7,7 @@ use native.Mathlib.Nat.{mul-pos}
 use native.Mathlib.Omega.{arith}
 use Rattle.exact.specs.Rounding.{ceilDiv}
 use Rattle.exact.specs.RoundingLaws.{ceil-le}
-use Rattle.exact.specs.Fractions.{Frac, _⊕_, _⊖_, _⊗_, _⊘_, whole, roundUp, roundDown}
+use Rattle.exact.specs.Fractions.{_⊗_, _⊘_, whole, roundUp, roundDown}
 use Rattle.exact.proofs.Fractions.{⊗-comm, ⊗-zero}
 use Rattle.exact.proofs.Ratios.{ratio-≡, ratio-⊗, ratio-⊗-whole, one-minus}
 use Rattle.exact.proofs.RoundedFractions.{up-ratio, down-ratio}
@@ -20,7 +20,6 @@ use Rattle.site.specs.declared.Site.{Site}
 use Rattle.minute.specs.Rules.{hasGas}
 use Rattle.minute.specs.declared.Minute.{Minute}
 use Rattle.tool06.specs.declared.class.Class.{Class}
-use Rattle.tool06.specs.declared.figures.Figures.{Figures}
 use Rattle.tool06.specs.declared.figures.Judged.the-variants.{Accepted, Refused}
 use Rattle.tool06.specs.Class.{classOf}
 use Rattle.tool06.specs.Figures.{mg, η, exactFed, exactEmitted, exactDestroyed, figures}

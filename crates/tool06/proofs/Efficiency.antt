@@ -1,28 +1,27 @@
 -- The efficiency of each rule is one less a fraction of whole numbers, and never below zero.
 use mathlib.Core.Path.{_≡_, refl, sym, ap, _∙_}
 use mathlib.Core.Quot.{Quot·sound}
-use mathlib.Core.Bool.{Bool, true, false, not}
+use mathlib.Core.Bool.{Bool, true}
 use Prim.Native.Nat.{ℕ, _+_, _-_, _*_, _≤_, _<_, min}
 use native.Mathlib.Nat.{mul-pos}
 use native.Mathlib.Decide.{decLe}
 use native.Mathlib.Omega.{arith}
 use borrow.Author.Tests.{not-false}
-use lib.Dec.{T}
 use mathlib.Core.Logic.{_↔_}
 use Rattle.exact.specs.Fractions.{Frac, le-test, _⊕_, _⊖_, _⊗_, _⊘_, neg, inv, whole, _≼_, at-least-zero}
 use Rattle.exact.proofs.Bools.{holds, fails}
 use Rattle.exact.proofs.Fractions.{⊖-zero, ⊖-⊖, ⊖-⊗}
 use Rattle.exact.proofs.Order.{sign-of, inv-pos, inv-positive, whole-pos}
 use Rattle.exact.proofs.Ratios.{⊘-unique, ⊘-one, ratio-≡, ratio-⊗, ratio-⊘, ratio-⊕, one-minus}
-use Rattle.site.specs.Rules.{isDefault, isOpen, isMeasured}
+use Rattle.site.specs.Rules.{isMeasured}
 use Rattle.site.specs.declared.Site.{Site}
-use Rattle.minute.specs.Rules.{hasGas, flameSeen, temperaturePresent, exhaustPresent}
+use Rattle.minute.specs.Rules.{hasGas, exhaustPresent}
 use Rattle.minute.specs.declared.Minute.{Minute}
 use Rattle.tool06.specs.declared.class.Class.{Class}
 use Rattle.tool06.specs.declared.class.Class.the-variants.{Open, Low, Tall}
 use Rattle.tool06.specs.Class.{classOf}
 use Rattle.tool06.specs.Nanograms.{lowTenth, lostTenths, xBy, dBy}
-use Rattle.tool06.specs.Rules.{Rule, rule, lowered, nothing, half, byDefault, measured, temperatureUnfit, flowUnfit, ruleLines, theRule}
+use Rattle.tool06.specs.Rules.{Rule, rule, lowered, measured, ruleLines, theRule}
 use Rattle.tool06.specs.Short.{K, D, F-RG-ng, five-LKf}
 use Rattle.tool06.specs.Tool.{Masses, Positive, v, V-RG, ρ-CH4, F-CH4-RG, F-CH4-EG, η-calc}
 use Rattle.tool06.proofs.Facts.{Facts, has-gas, measurable}

@@ -3,8 +3,8 @@ use mathlib.Core.Path.{_≡_, refl}
 use mathlib.Core.Logic.{⊎-elim}
 use mathlib.Core.Bool.{Bool, true, false, _&&_, _||_, not}
 use mathlib.Core.List.{_++_}
-use Prim.Native.Nat.{ℕ, zero, suc, _+_, _-_, _*_, _≤_, _<_}
-use lib.Dec.{eqb, ltb}
+use Prim.Native.Nat.{ℕ, zero, suc, _*_, _≤_, _<_}
+use lib.Dec.{eqb}
 use native.Mathlib.Omega.{arith}
 use borrow.Author.Tests.{ltb-true, ltb-false, eqb-true, eqb-false, not-false}
 use Rattle.exact.specs.Ranges.{above}
@@ -21,7 +21,7 @@ use Rattle.minute.specs.declared.Minute.{Minute}
 use Rattle.tool06.specs.Judged.{oxygenLines, judgedLines}
 use Rattle.tool06.specs.Nanograms.{Measurable}
 use Rattle.tool06.specs.Rules.{rule, measured, ruleLines, theRule}
-use Rattle.tool06.specs.Short.{K, K-plus, K-minus, S-plus, S-minus, S-negative, F-RG-ng}
+use Rattle.tool06.specs.Short.{S-plus, S-minus, S-negative, F-RG-ng}
 use Rattle.tool06.proofs.Rules.{by-turns}
 use Rattle.tool06.proofs.Short.{K-positive}
 

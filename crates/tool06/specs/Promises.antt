@@ -1,7 +1,7 @@
 -- What document 01 says of the tool's equations, "to be proved, not assumed".
 use mathlib.Core.Path.{_≡_}
 use mathlib.Core.Logic.{_↔_}
-use Prim.Native.Nat.{_*_, _≤_, _<_}
+use Prim.Native.Nat.{_≤_, _<_}
 use Rattle.exact.specs.Fractions.{Frac, _⊖_, _⊗_, _⊘_, whole, _≼_, _≺_}
 use Rattle.minute.specs.declared.gas.Gas.{Gas}
 use Rattle.minute.specs.declared.Minute.{Minute}

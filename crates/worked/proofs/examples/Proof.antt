@@ -1,8 +1,7 @@
 -- The table in the code is the document's.
 use borrow.Author.Needs.{needs}
-use mathlib.Core.Path.{_≡_, refl, ap, ap₂, _∙_}
-use mathlib.Core.List.{List, [], _∷_}
-use Prim.Native.Nat.{ℕ}
+use mathlib.Core.Path.{_≡_, refl, ap, _∙_}
+use mathlib.Core.List.{List, _∷_}
 use Rattle.site.specs.declared.Site.{Site}
 use Rattle.minute.specs.declared.gas.Gas.{Gas}
 use Rattle.minute.specs.declared.Minute.{Minute}

@@ -1,9 +1,7 @@
 use borrow.Author.Needs.{needs}
 use mathlib.Core.Path.{_≡_, sym, ap, _∙_}
 use mathlib.Core.List.{_++_}
-use Rattle.refusals.specs.Tables.{firstOf, also, after}
-use Rattle.refusals.specs.declared.verdict.Verdict.{Verdict}
-use Rattle.refusals.specs.declared.verdict.Verdict.the-variants.{Fine}
+use Rattle.refusals.specs.Tables.{firstOf, also}
 use Rattle.refusals.specs.declared.refusal.Refusal.the-variants.{Oxygen}
 use Rattle.refusals.proofs.Tables.{joined, one-more}
 use Rattle.records.specs.House.{answered}
