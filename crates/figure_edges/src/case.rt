@@ -15,12 +15,16 @@ pub struct Case {
 }
 
 impl Case {
-    pub fn at(height: u32, method: u8, minute: Minute) -> Case {
+    pub fn of(site: Site, minute: Minute) -> Case {
         Case {
-            site: flares::flare(height, method),
+            site: site,
             minute: minute,
             in_time: true,
         }
+    }
+
+    pub fn at(height: u32, method: u8, minute: Minute) -> Case {
+        Case::of(flares::flare(height, method), minute)
     }
 
     // Changed so that the rule applies. No rule undoes another, and 9 is what is left.

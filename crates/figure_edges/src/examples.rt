@@ -1,63 +1,36 @@
-// Document 01's own examples.
+// Document 01's own examples: those that are proved, from their table, and the two about exhaust oxygen.
 use crate::burnt;
 use crate::case::Case;
-use crate::flares::LOW;
-use crate::flares::OPEN;
 use crate::flares::TALL;
 use minute::Minute;
-use samples::gas;
-use samples::minutes;
 use samples::say;
 use site::Site;
 use tool06::Figures;
+use worked::Example;
 
 pub fn print() {
     say::text(b"\nH. Document 01's examples\n");
-    not_measured();
-    measured();
+    let table = worked::examples();
+    show(table[0]);
+    show(table[1]);
+    show(table[2]);
+    show(table[3]);
+    show(table[4]);
+    show(table[5]);
+    show(table[6]);
+    show(table[7]);
+    show(table[8]);
+    show(table[9]);
+    show(table[10]);
+    show(table[11]);
+    with_exhaust_oxygen(Minute::MOST_OXYGEN);
+    with_exhaust_oxygen(Figures::AIR_OXYGEN);
 }
 
-fn not_measured() {
-    let g = minutes::good();
-    let litre = burnt::litres(1, 500_001, 499_999, 100);
-    Case::at(OPEN, Site::DEFAULT, g).print();
-    Case::at(OPEN, Site::DEFAULT, g)
-        .with(Figures::NO_FLAME)
-        .print();
-    Case::at(TALL, Site::DEFAULT, g).print();
-    Case::at(LOW, Site::DEFAULT, g).print();
-    Case::at(OPEN, Site::DEFAULT, litre).print();
-    Case::at(TALL, Site::DEFAULT, litre).print();
+fn show(example: Example) {
+    Case::of(example.site, example.minute).print();
 }
 
-// The last four: S is 0, then just below; the exhaust has less oxygen than air, then as much.
-fn measured() {
-    Case::at(TALL, Site::MEASURED, burnt::exhaust(90_000, 100)).print();
-    Case::at(LOW, Site::MEASURED, burnt::exhaust(90_000, 100)).print();
-    Case::at(
-        TALL,
-        Site::MEASURED,
-        burnt::exhaust(90_000, Minute::MOST_METHANE),
-    ).print();
-    Case::at(LOW, Site::MEASURED, burnt::exhaust(90_000, 40_000)).print();
-    Case::at(
-        TALL,
-        Site::MEASURED,
-        burnt::oxygen(gas::each(0), 200_000, 700_000),
-    ).print();
-    Case::at(
-        TALL,
-        Site::MEASURED,
-        burnt::oxygen(gas::each(0), 200_001, 699_999),
-    ).print();
-    Case::at(
-        TALL,
-        Site::MEASURED,
-        burnt::exhaust(Minute::MOST_OXYGEN, 100),
-    ).print();
-    Case::at(
-        TALL,
-        Site::MEASURED,
-        burnt::exhaust(Figures::AIR_OXYGEN, 100),
-    ).print();
+fn with_exhaust_oxygen(ppm: u32) {
+    Case::at(TALL, Site::MEASURED, burnt::exhaust(ppm, 100)).print();
 }
