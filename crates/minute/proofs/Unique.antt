@@ -7,6 +7,7 @@ use Rattle.records.specs.House.{written}
 use Rattle.minute.proofs.Minute.read.Reads as read
 use Rattle.minute.proofs.Minute.verdict.Reads as verdict
 use Rattle.minute.proofs.Minute.write.Reads as write
+use Rattle.minute.proofs.read.fields_in.Reads as fields-in
 
 pub read-one : (κs : _) (a : _) → OneResult (read.Learnt κs a)
 read-one κs a x y e f p q = p ∙ sym q
@@ -18,3 +19,6 @@ write-one κs a x y e f p q =
 
 pub verdict-one : (κs : _) (a : _) → OneResult (verdict.Learnt κs a)
 verdict-one κs a x y e f p q = p ∙ sym q
+
+pub fields-in-one : (κs : _) (a : _) → OneResult (fields-in.Learnt κs a)
+fields-in-one κs a x y e f p q = p ∙ sym q

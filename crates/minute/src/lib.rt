@@ -4,6 +4,7 @@ mod read;
 mod write;
 
 pub use gas::Gas;
+pub use read::fields_in;
 ghost use mathlib.Core.Path.{_≡_};
 ghost use Rattle.refusals.specs.Tables.{firstOf};
 ghost use Rattle.minute.specs.Rules.{temperatureWrong, exhaustWrong, minuteLines, aloneLines};
@@ -33,6 +34,9 @@ pub enum MinuteRead {
 
 impl Minute {
     pub const BYTES: usize = 54;
+
+    // Of the records of one day.
+    pub const DAY_BYTES: usize = 77_760;
 
     pub const VERSION: u8 = 1;
 

@@ -15,7 +15,7 @@ impl Minute {
         match records::head(bytes, Minute::BYTES, Minute::VERSION) {
             Verdict::Refuse(r) => MinuteRead::Refused(r),
             Verdict::Fine => {
-                let minute = minute_in(bytes);
+                let minute = fields_in(bytes);
                 match minute.alone() {
                     Verdict::Fine => MinuteRead::Fields(minute),
                     Verdict::Refuse(r) => MinuteRead::Refused(r),
@@ -40,7 +40,8 @@ fn gas_in(b: &[u8]) -> Gas
     }
 }
 
-fn minute_in(b: &[u8]) -> Minute
+// The fields of a record's bytes, not yet examined.
+pub fn fields_in(b: &[u8]) -> Minute
     ensures { λ r. ⌜ r ≡ minuteOf (now (b .entry)) ⌝ }
 {
     let exhaust = Readings {

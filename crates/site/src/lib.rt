@@ -80,6 +80,8 @@ impl Site {
 
     pub const LEAP_MINUTES: u32 = 527_040;
 
+    pub const DAY_MINUTES: u32 = 1_440;
+
     // Whether the enclosure is too short for an enclosed flare.
     pub fn is_open(self) -> bool
         ensures { λ r. ⌜ r ≡ isOpen self ⌝ }

@@ -11,14 +11,14 @@ use Rattle.minute.proofs.Minute.read.Statement.{statement}
 use Rattle.minute.proofs.Minute.read.Tie as tie
 
 -- the head's verdict decides, and then the fields'
-came : (v : tie.After-alone) {w : Verdict} → v .alone .result ≡ w → answered Fields Refused (v .before .minute-in .result) w ≡ readMinute (now (v .before .before .before .before .before .before .args .bytes))
+came : (v : tie.After-alone) {w : Verdict} → v .alone .result ≡ w → answered Fields Refused (v .before .fields-in .result) w ≡ readMinute (now (v .before .before .before .before .before .before .args .bytes))
 unfolding readMinute
 came v {w} e =
     let t = v .before .before in
     let b = now (t .before .before .before .before .args .bytes) in
-    by-fields Fields Refused aloneLines (minuteOf b) (headLines 54 1 b) (v .before .minute-in .result) w
+    by-fields Fields Refused aloneLines (minuteOf b) (headLines 54 1 b) (v .before .fields-in .result) w
     (sym (t .before .before .head .ensures) ∙ t .enum-told .given .1)
-    (v .before .minute-in .ensures)
+    (v .before .fields-in .ensures)
     (sym e ∙ v .alone .ensures)
 
 returns : tie.Need-returns

@@ -1,8 +1,8 @@
 use mir.ValLaws.{toZ-ofZ}
 use mir.Syntax.{w16}
 use borrow.Author.Needs.{needs, sfits-of}
-use Rattle.minute.proofs.read.minute_in.Statement.{statement}
-use Rattle.minute.proofs.read.minute_in.Tie as tie
+use Rattle.minute.proofs.read.fields_in.Statement.{statement}
+use Rattle.minute.proofs.read.fields_in.Tie as tie
 
 returns : tie.Need-returns
 returns c =
@@ -20,8 +20,8 @@ returns c =
       t .before .before .u32-at .ensures,
     )
 
-pub minute-in-spec : {M : Type 1} → statement M
-minute-in-spec =
+pub fields-in-spec : {M : Type 1} → statement M
+fields-in-spec =
     tie.close
     (tie.spec
     (search needs)
