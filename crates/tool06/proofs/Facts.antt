@@ -73,6 +73,13 @@ facts disordered s n fine =
           (and-false (hasGas n && isMeasured s && exhaustPresent n) (S-negative (n .gas)) oxygen (rw (gas, measured, present)));
     }
 
+-- 13 was not given
+pub in-order : (disordered : Bool) (s : Site) (n : Minute) → firstOf (judgedLines disordered s n) ≡ Fine → disordered ≡ false
+unfolding minuteLines
+in-order disordered s n fine =
+    let all = split (siteLines s ++ minuteLines disordered n) (oxygenLines s n) fine in
+    none (minuteLines disordered n) (split (siteLines s) (minuteLines disordered n) (all .0) .1) .1 .0
+
 pub has-gas : (n : Minute) → hasGas n ≡ true → 0 < n .litres
 has-gas n gas = ltb-true 0 (n .litres) gas
 

@@ -2,6 +2,8 @@ pub mod Amounts
 pub mod Efficiency
 pub mod Facts
 pub mod Kept
+pub mod Ones
 pub mod Rules
 pub mod Short
+pub mod Sizes
 pub mod Sums

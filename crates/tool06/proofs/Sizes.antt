@@ -1,0 +1,72 @@
+-- How large the figures of one accepted minute can be.
+use mathlib.Core.Path.{_≡_, refl}
+use mathlib.Core.Bool.{Bool, true, false, not}
+use mathlib.Core.List.{List, [], _∷_}
+use Prim.Native.Nat.{ℕ, _*_, _≤_, _<_}
+use lib.Dec.{ltb, eqb}
+use native.Mathlib.Omega.{arith}
+use borrow.Author.Tests.{ltb-true, ne-eqb}
+use Rattle.exact.specs.Rounding.{ceilDiv}
+use Rattle.exact.specs.RoundingLaws.{ceil-le}
+use Rattle.site.specs.declared.Site.{Site}
+use Rattle.minute.specs.Rules.{hasGas}
+use Rattle.minute.specs.declared.Minute.{Minute}
+use Rattle.tool06.specs.Bounds.{Entry, IsAccepted, figuresOf, oneIf, gasOf}
+use Rattle.tool06.specs.Figures.{figures}
+use Rattle.tool06.specs.Nanograms.{figuresNg}
+use Rattle.tool06.specs.Rules.{RuleLine, rule, measured, ruleLines, theRule}
+use Rattle.tool06.specs.Short.{F-RG-ng}
+use Rattle.tool06.specs.Tool.{Masses, Positive}
+use Rattle.tool06.proofs.Amounts.{same-figures}
+use Rattle.tool06.proofs.Facts.{facts, fed-within}
+use Rattle.tool06.proofs.Rules.{first-numbered}
+use Rattle.tool06.proofs.Sums.{one-minute}
+
+below-ten : (s : Site) (n : Minute) (inTime : Bool) → theRule s n inTime .number < 10
+unfolding theRule ruleLines
+below-ten s n inTime = ltb-true _ _ (first-numbered (λ k. ltb k 10) (ruleLines s n inTime) (rule 9 (measured s n)) refl refl)
+
+-- the lines after the first, which is rule 0's
+later : List RuleLine → List RuleLine
+later [] = []
+later (line ∷ lines) = lines
+
+with-gas : (s : Site) (n : Minute) (inTime : Bool) → hasGas n ≡ true → 0 < theRule s n inTime .number
+unfolding theRule ruleLines later
+with-gas s n inTime gas =
+    rw gas (ltb-true _ _ (first-numbered (λ k. ltb 0 k) (later (ruleLines s n inTime)) (rule 9 (measured s n)) refl refl))
+
+without-gas : (s : Site) (n : Minute) (inTime : Bool) → hasGas n ≡ false → theRule s n inTime .number ≡ 0
+unfolding theRule ruleLines
+without-gas s n inTime none = rw none refl
+
+module _ (m : Masses) (e : Entry) where
+  -- a minute has gas where its rule is not 0
+  pub gas-by-rule : oneIf (not (eqb (figuresOf m e .rule) 0)) ≡ gasOf e
+  unfolding figures
+  gas-by-rule = by-gas (hasGas (e .minute)) refl
+    where
+      by-gas : (gas : Bool) → hasGas (e .minute) ≡ gas → oneIf (not (eqb (theRule (e .site) (e .minute) (e .inTime) .number) 0)) ≡ oneIf gas
+      by-gas true gas =
+          let r = with-gas (e .site) (e .minute) (e .inTime) gas in
+          rw (ne-eqb (theRule (e .site) (e .minute) (e .inTime) .number) 0 (λ z. omega arith)) refl
+      by-gas false none = rw (without-gas (e .site) (e .minute) (e .inTime) none) refl
+
+  pub rule-below : figuresOf m e .rule < 10
+  unfolding figures
+  rule-below = below-ten (e .site) (e .minute) (e .inTime)
+
+-- 71.6 kg at most in a minute with gas
+pub fed-most : (m : Masses) → Positive m → (e : Entry) → IsAccepted e → figuresOf m e .fed ≤ gasOf e * 71600000
+unfolding figuresNg
+fed-most m pos e fine = by-gas (hasGas (e .minute)) refl
+  where
+    within : ceilDiv (F-RG-ng (e .minute)) 1000000 ≤ 71600000
+    within = ceil-le (F-RG-ng (e .minute)) 1000000 71600000 (omega arith) .1 (let h = fed-within (facts false (e .site) (e .minute) fine) in omega arith)
+
+    most : figuresNg (e .site) (e .minute) (e .inTime) .fed ≤ 71600000
+    most = within
+
+    by-gas : (gas : Bool) → hasGas (e .minute) ≡ gas → figuresOf m e .fed ≤ oneIf gas * 71600000
+    by-gas true gas = rw (← same-figures m pos (facts false (e .site) (e .minute) fine) (e .inTime)) most
+    by-gas false none = let z = one-minute m pos e fine .no-gas (rw none refl) .0 in omega arith
