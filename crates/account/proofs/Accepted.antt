@@ -1,0 +1,76 @@
+-- What holds where the account accepts a record.
+use Prim.Native.Nat.{ℕ, _*_, _≤_, _<_}
+use mathlib.Core.Path.{_≡_, refl, sym, subst}
+use mathlib.Core.Bool.{Bool, false}
+use mathlib.Core.List.{List}
+use native.Mathlib.Omega.{arith}
+use borrow.Author.Tests.{eqb-true, leb-false, not-false}
+use lib.Dec.{eqb}
+use Rattle.refusals.specs.Tables.{firstOf}
+use Rattle.refusals.specs.declared.refusal.Refusal.{Refusal}
+use Rattle.refusals.specs.declared.verdict.Verdict.{Verdict}
+use Rattle.refusals.specs.declared.verdict.Verdict.the-variants.{Fine, Refuse}
+use Rattle.refusals.proofs.Tables.{split, none}
+use Rattle.records.specs.House.{answered}
+use Rattle.site.specs.Rules.{yearMinutes}
+use Rattle.minute.specs.Record.{minuteOf}
+use Rattle.tool06.specs.Bounds.{Entry, IsAccepted, figuresOf, gasOf}
+use Rattle.tool06.specs.Judged.{judgedLines}
+use Rattle.tool06.specs.Tool.{Masses, Positive}
+use Rattle.tool06.specs.declared.figures.Figures.{Figures}
+use Rattle.tool06.specs.declared.figures.Judged.the-variants.{Accepted, Refused}
+use Rattle.tool06.proofs.Facts.{in-order}
+use Rattle.tool06.proofs.Sizes.{gas-by-rule, rule-below, fed-most}
+use Rattle.tool06.proofs.Sums.{one-minute}
+use Rattle.account.specs.Adding.{isFull, notNext, entry, recordLines, addLines, answer}
+use Rattle.account.specs.Kept.{Small}
+use Rattle.account.specs.declared.Account.{Account}
+
+-- a record that is accepted holds the next minute, which is accepted at the site, in a year that is not full
+pub record Taken (m : Masses) (a : Account) (bytes : List ℕ) (f : Figures) : Type 0 where
+  pub not-full : isFull a ≡ false
+  pub number-is : minuteOf bytes .number ≡ a .minutes
+  pub entry-accepted : IsAccepted (entry a bytes)
+  pub figures-are : f ≡ figuresOf m (entry a bytes)
+
+refused-not : {r : Refusal} {f : Figures} → Refused r ≡ Accepted f → ⊥
+refused-not e = let z : _≡_ {A = ℕ} 0 1 = cc in omega arith
+
+answered-fine : (v : Verdict) {f g : Figures} → answered Accepted Refused g v ≡ Accepted f → (v ≡ Fine) × (f ≡ g)
+answered-fine Fine e = (refl, cc)
+answered-fine (Refuse r) e = absurd (refused-not e)
+
+pub taken : (m : Masses) (a : Account) (bytes : List ℕ) (f : Figures) → answer m a bytes ≡ Accepted f → Taken m a bytes f
+unfolding answer addLines
+taken m a bytes f e =
+    let n = minuteOf bytes in
+    let fine = answered-fine (firstOf (addLines a bytes)) e in
+    let both = split (recordLines a bytes) (judgedLines (notNext a n) (a .site) n) (fine .0) in
+    let next : notNext a n ≡ false = in-order (notNext a n) (a .site) n (both .1) in
+    record {
+      not-full = none (recordLines a bytes) (both .0) .0;
+      number-is = eqb-true (n .number) (a .minutes) (not-false (eqb (n .number) (a .minutes)) next);
+      entry-accepted = subst (λ (b : Bool). firstOf (judgedLines b (a .site) n) ≡ Fine) next (both .1);
+      figures-are = fine .1;
+    }
+
+-- the figures of an accepted minute
+pub small : (m : Masses) → Positive m → (e : Entry) → IsAccepted e → Small (figuresOf m e)
+small m pos e fine =
+    let fed : figuresOf m e .fed ≤ gasOf e * 71600000 = fed-most m pos e fine in
+    let within = one-minute m pos e fine .together-within in
+    record {
+      rule-below = rule-below m e;
+      fed-small = rw (gas-by-rule m e) fed;
+      emitted-small = rw (gas-by-rule m e) (omega arith);
+      destroyed-small = rw (gas-by-rule m e) (omega arith);
+    }
+
+pub room : {m : Masses} {a : Account} {bytes : List ℕ} {f : Figures} → Taken m a bytes f → a .minutes < yearMinutes (a .site .year)
+unfolding isFull
+room t = leb-false _ _ (t .not-full)
+
+pub accepted : (m : Masses) → Positive m → (a : Account) (bytes : List ℕ) (f : Figures) → answer m a bytes ≡ Accepted f → Small f × (a .minutes < yearMinutes (a .site .year))
+accepted m pos a bytes f e =
+    let t = taken m a bytes f e in
+    (subst Small (sym (t .figures-are)) (small m pos (entry a bytes) (t .entry-accepted)), room t)

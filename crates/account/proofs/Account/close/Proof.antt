@@ -1,0 +1,25 @@
+use mathlib.Core.Path.{refl, sym, _∙_}
+use native.Mathlib.Omega.{arith}
+use borrow.Author.Needs.{needs}
+use Rattle.exact.specs.Rounding.{ceilDiv}
+use Rattle.account.specs.Closing.{closing}
+use Rattle.account.proofs.Within.{co2e-within}
+use Rattle.account.proofs.Account.close.Statement.{statement}
+use Rattle.account.proofs.Account.close.Tie as tie
+
+add-t6 : tie.Need-add-t6
+add-t6 c =
+    let h = co2e-within (c .before .before .before .pre) in
+    let e = c .before .before .co2e .ensures in
+    record { fits = omega arith }
+
+returns : tie.Need-returns
+unfolding closing ceilDiv
+returns c = rw (sym (c .before .is-full .ensures) ∙ c .if1 .taken, c .before .before .co2e .ensures)
+
+returns-2 : tie.Need-returns-2
+unfolding closing
+returns-2 c = rw (sym (c .before .is-full .ensures) ∙ c .if1 .left)
+
+pub close-spec : {M : Type 1} → statement M
+close-spec = tie.close (tie.spec (λ c κs. search needs) (λ c κs. search needs) (search needs) add-t6 returns returns-2)

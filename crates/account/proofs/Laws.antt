@@ -1,0 +1,107 @@
+-- What the calls keep of every account.
+use Prim.Native.Nat.{ℕ, zero, suc, _+_, _≤_, _<_}
+use mathlib.Core.Path.{_≡_, refl, sym, _∙_}
+use mathlib.Core.Bool.{Bool, true, false, not}
+use mathlib.Core.List.{List, [], _∷_}
+use native.Mathlib.Omega.{arith}
+use borrow.Author.Tests.{eqb-true, eqb-false, ltb-false}
+use lib.Dec.{ltb, eqb}
+use lib.IntN.{ℤ}
+use lib.ListN.{length, getD, set, length-set}
+use lib.Seq.{getD-set-same, getD-set-other}
+use Rattle.exact.proofs.Bools.{or-false}
+use Rattle.refusals.specs.Tables.{when, firstOf}
+use Rattle.refusals.specs.declared.refusal.Refusal.the-variants.{List as LIST}
+use Rattle.refusals.specs.declared.verdict.Verdict.{Verdict}
+use Rattle.refusals.specs.declared.verdict.Verdict.the-variants.{Fine, Refuse}
+use Rattle.refusals.proofs.Tables.{split, none}
+use Rattle.site.specs.Rules.{yearMinutes, siteLines}
+use Rattle.site.specs.declared.Site.{Site}
+use Rattle.maintenance.specs.Days.{listWrong}
+use Rattle.maintenance.proofs.Laws.{kept-list}
+use Rattle.tool06.specs.Bounds.{oneIf}
+use Rattle.tool06.specs.Tool.{Masses, Positive}
+use Rattle.tool06.specs.declared.figures.Figures.{Figures}
+use Rattle.tool06.specs.declared.figures.Judged.{Judged}
+use Rattle.tool06.specs.declared.figures.Judged.the-variants.{Accepted, Refused}
+use Rattle.account.specs.Adding.{oneMore, withMinute, after, answer, addTo}
+use Rattle.account.specs.Kept.{sum, Kept, Small}
+use Rattle.account.specs.Opening.{lastDay, openLines, fresh, noSite, accountBeside, opened}
+use Rattle.account.specs.declared.Account.{Account}
+use Rattle.account.proofs.Accepted.{accepted}
+
+-- one more under a rule: the count of that rule is one more, and the others are as they were
+pub count-more : (counts : List ℕ) (rule k : ℕ) → rule < length counts → getD (oneMore counts rule) k 0 ≡ getD counts k 0 + oneIf (eqb rule k)
+count-more counts rule k there = by-rule (eqb rule k) refl
+  where
+    by-rule : (b : Bool) → eqb rule k ≡ b → getD (oneMore counts rule) k 0 ≡ getD counts k 0 + oneIf b
+    by-rule true e = rw (← eqb-true rule k e) (getD-set-same counts rule (getD counts rule 0 + 1) 0 there)
+    by-rule false e =
+        let other = getD-set-other counts rule k (getD counts rule 0 + 1) 0 (λ z. eqb-false rule k e (sym z)) in
+        omega (arith, other)
+
+sum-set : (xs : List ℕ) (k x : ℕ) → k < length xs → sum (set xs k x) + getD xs k 0 ≡ sum xs + x
+sum-set (y ∷ xs) zero x h = omega arith
+sum-set (y ∷ xs) (suc k) x h = let e = sum-set xs k x (omega arith) in omega (arith, e)
+
+one-or-other : (b : Bool) → oneIf (not b) + oneIf b ≡ 1
+one-or-other true = refl
+one-or-other false = refl
+
+pub kept-with : {a : Account} {f : Figures} → Kept a → Small f → a .minutes < yearMinutes (a .site .year) → Kept (withMinute a f)
+unfolding withMinute
+kept-with {a} {f} kept small room =
+    let there : f .rule < length (a .counts) = omega (arith, kept .ten-counts, small .rule-below) in
+    record {
+      minutes-within = omega arith;
+      gwp-within = kept .gwp-within;
+      list-kept = kept .list-kept;
+      ten-counts = length-set (a .counts) (f .rule) _ ∙ kept .ten-counts;
+      counts-sum = omega (arith, kept .counts-sum, sum-set (a .counts) (f .rule) (getD (a .counts) (f .rule) 0 + 1) there);
+      gas-counted = omega (arith, kept .gas-counted, count-more (a .counts) (f .rule) 0 there, one-or-other (eqb (f .rule) 0));
+      fed-within = omega (arith, kept .fed-within, small .fed-small);
+      emitted-within = omega (arith, kept .emitted-within, small .emitted-small);
+      destroyed-within = omega (arith, kept .destroyed-within, small .destroyed-small);
+    }
+
+-- adding keeps what it requires, whatever the bytes
+pub kept-add : (m : Masses) → Positive m → {a : Account} → Kept a → (bytes : List ℕ) → Kept (addTo m a bytes .account)
+unfolding addTo
+kept-add m pos {a} kept bytes = by-answer (answer m a bytes) refl
+  where
+    by-answer : (j : Judged) → answer m a bytes ≡ j → Kept (after a j)
+    by-answer (Accepted f) e = let told = accepted m pos a bytes f e in kept-with kept (told .0) (told .1)
+    by-answer (Refused r) e = kept
+
+-- an accepted record is one minute more
+pub minutes-on : (m : Masses) (a : Account) (bytes : List ℕ) (f : Figures) → answer m a bytes ≡ Accepted f → addTo m a bytes .account .minutes ≡ a .minutes + 1
+unfolding addTo withMinute
+minutes-on m a bytes f e = rw e refl
+
+pub fresh-kept : (s : Site) (days : List ℤ) → s .gwp ≤ 100 → Kept (fresh s days)
+unfolding fresh
+fresh-kept s days gwp = record {
+  minutes-within = omega arith;
+  gwp-within = gwp;
+  list-kept = kept-list days;
+  ten-counts = refl;
+  counts-sum = refl;
+  gas-counted = refl;
+  fed-within = omega arith;
+  emitted-within = omega arith;
+  destroyed-within = omega arith;
+}
+
+-- opening examined the GWP
+gwp-most : (s : Site) → firstOf (siteLines s) ≡ Fine → s .gwp ≤ 100
+unfolding siteLines
+gwp-most s fine = ltb-false 100 (s .gwp) (or-false (ltb (s .gwp) 1) (ltb 100 (s .gwp)) (none (siteLines s) fine .1 .1 .0) .1)
+
+-- whatever the site and the list
+pub opened-kept : (s : Site) (days : List ℤ) → Kept (opened s days .account)
+unfolding opened openLines noSite
+opened-kept s days = by-verdict (firstOf (openLines s days)) refl
+  where
+    by-verdict : (v : Verdict) → firstOf (openLines s days) ≡ v → Kept (accountBeside s days v)
+    by-verdict Fine e = fresh-kept s days (gwp-most s (split (siteLines s) (when (listWrong days (lastDay (s .year))) LIST ∷ []) e .0))
+    by-verdict (Refuse r) e = fresh-kept noSite [] (omega arith)

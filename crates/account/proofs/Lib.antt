@@ -1,0 +1,5 @@
+pub mod Accepted
+pub mod Laws
+pub mod Lossless
+pub mod Unique
+pub mod Within

@@ -1,0 +1,44 @@
+-- How large the numbers of an account can be.
+use Prim.Native.Nat.{ℕ, zero, suc, _%_, _*_, _≤_}
+use mathlib.Core.Bool.{Bool, true, false}
+use mathlib.Core.Path.{_≡_, refl}
+use lib.Dec.{eqb}
+use lib.ListN.{getD}
+use mathlib.Core.List.{List, [], _∷_}
+use native.Mathlib.Omega.{arith}
+use Rattle.exact.proofs.Rounding.{mul-within}
+use Rattle.site.specs.Rules.{yearMinutes}
+use Rattle.tool06.specs.Bounds.{oneIf}
+use Rattle.account.specs.Closing.{co2e}
+use Rattle.account.specs.Kept.{sum, Kept}
+use Rattle.account.specs.declared.Account.{Account}
+
+pub year-within : (year : ℕ) → (525600 ≤ yearMinutes year) × (yearMinutes year ≤ 527040)
+year-within year = by-leap (eqb (year % 4) 0) refl
+  where
+    by-leap : (leap : Bool) → eqb (year % 4) 0 ≡ leap → (525600 ≤ yearMinutes year) × (yearMinutes year ≤ 527040)
+    by-leap true e = rw e (omega arith, omega arith)
+    by-leap false e = rw e (omega arith, omega arith)
+
+-- one of several is at most their sum
+pub one-within : (xs : List ℕ) (k : ℕ) → getD xs k 0 ≤ sum xs
+one-within [] k = omega arith
+one-within (x ∷ xs) zero = omega arith
+one-within (x ∷ xs) (suc k) = let h = one-within xs k in omega arith
+
+pub one-if-within : (b : Bool) → oneIf b ≤ 1
+one-if-within true = omega arith
+one-if-within false = omega arith
+
+pub sum-within : {a : Account} → Kept a → (x : ℕ) → x ≤ a .gas * 71600000 → x ≤ 37736064000000
+sum-within {a} k x h =
+    let y = year-within (a .site .year) .1 in
+    let n = k .minutes-within in
+    let g = k .gas-counted in
+    omega arith
+
+-- below 2^53 mg
+pub co2e-within : {a : Account} → Kept a → co2e a ≤ 3773606400000000
+unfolding co2e
+co2e-within {a} k =
+    mul-within (a .site .gwp) (a .emitted) 100 37736064000000 (k .gwp-within) (sum-within k (a .emitted) (k .emitted-within))

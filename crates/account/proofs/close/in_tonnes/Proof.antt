@@ -1,0 +1,20 @@
+use Prim.Native.Nat.{_^_}
+use mathlib.Core.Path.{refl, subst, sym}
+use native.Mathlib.Omega.{arith}
+use borrow.Author.Tests.{le-leb}
+use lib.Dec.{T}
+use lib.Ieee.{inFloat, ofBits, ofInt}
+use Rattle.account.specs.Closing.{inTonnes}
+use Rattle.account.proofs.close.in_tonnes.Statement.{statement}
+use Rattle.account.proofs.close.in_tonnes.Tie as tie
+
+int-to-float-result : tie.Need-int-to-float-result
+unfolding inFloat
+int-to-float-result c = subst T (sym (le-leb (c .before .args .mg) (2 ^ 53) (omega arith))) tt
+
+returns : tie.Need-returns
+unfolding inTonnes ofBits ofInt
+returns c = refl
+
+pub in-tonnes-spec : {M : Type 1} → statement M
+in-tonnes-spec = tie.close (tie.spec int-to-float-result returns)

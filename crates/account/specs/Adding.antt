@@ -1,0 +1,78 @@
+-- Document 01, "Adding a minute: 11, 1, 2, 12 to 19", and what an accepted minute adds.
+use Prim.Native.Nat.{ℕ, _+_, _/_}
+use mathlib.Core.Bool.{Bool, not}
+use mathlib.Core.List.{List, [], _∷_, _++_}
+use lib.Dec.{leb, eqb}
+use lib.ListN.{getD, set}
+use Rattle.refusals.specs.Tables.{Line, when, firstOf}
+use Rattle.refusals.specs.declared.refusal.Refusal.the-variants.{Full}
+use Rattle.records.specs.House.{headLines, answered}
+use Rattle.site.specs.Rules.{yearMinutes}
+use Rattle.minute.specs.Record.{minuteOf}
+use Rattle.minute.specs.declared.Minute.{Minute}
+use Rattle.maintenance.specs.Days.{inTime, listedDays}
+use Rattle.tool06.specs.Bounds.{Entry, figuresOf, oneIf}
+use Rattle.tool06.specs.Judged.{judgedLines}
+use Rattle.tool06.specs.Tool.{Masses}
+use Rattle.tool06.specs.declared.figures.Figures.{Figures}
+use Rattle.tool06.specs.declared.figures.Judged.{Judged}
+use Rattle.tool06.specs.declared.figures.Judged.the-variants.{Accepted, Refused}
+use Rattle.account.specs.declared.Account.{Account}
+use Rattle.account.specs.declared.add.Added.{Added}
+
+-- "the year's last minute is already in"
+unfoldable pub isFull : Account → Bool
+isFull a = leb (yearMinutes (a .site .year)) (a .minutes)
+
+-- "not the next minute"
+abbrev pub notNext : Account → Minute → Bool
+notNext a n = not (eqb (n .number) (a .minutes))
+
+-- "in time on day d", d being the day of this minute of the year
+unfoldable pub in-time : Account → ℕ → Bool
+in-time a number = inTime (listedDays (a .maintenance)) (number / 1440) (a .site .days)
+
+-- the minute of these bytes, as the account judges it
+abbrev pub entry : Account → List ℕ → Entry
+entry a b = record { site = a .site; minute = minuteOf b; inTime = in-time a (minuteOf b .number) }
+
+-- 11, then 1 and 2
+abbrev pub recordLines : Account → List ℕ → List Line
+recordLines a b = when (isFull a) Full ∷ headLines 54 1 b
+
+-- then 12 to 19; before them stand 3 to 9, which give nothing, since opening examined the site
+unfoldable pub addLines : Account → List ℕ → List Line
+addLines a b = recordLines a b ++ judgedLines (notNext a (minuteOf b)) (a .site) (minuteOf b)
+
+-- the minute's figures and rule, or the refusal
+unfoldable pub answer : Masses → Account → List ℕ → Judged
+answer m a b = answered Accepted Refused (figuresOf m (entry a b)) (firstOf (addLines a b))
+
+-- 1 for a minute with gas: rule 0 is "no gas"
+abbrev pub withGas : ℕ → ℕ
+withGas rule = oneIf (not (eqb rule 0))
+
+-- one more at place k
+abbrev pub oneMore : List ℕ → ℕ → List ℕ
+oneMore counts k = set counts k (getD counts k 0 + 1)
+
+-- "the number of minutes accepted, the number with gas, and ten counts, one per rule", and the three sums
+unfoldable pub withMinute : Account → Figures → Account
+withMinute a f = record {
+  site = a .site;
+  maintenance = a .maintenance;
+  minutes = a .minutes + 1;
+  gas = a .gas + withGas (f .rule);
+  fed = a .fed + f .fed;
+  emitted = a .emitted + f .emitted;
+  destroyed = a .destroyed + f .destroyed;
+  counts = oneMore (a .counts) (f .rule);
+}
+
+-- "A refusal returns its number and nothing else; the account .. stay[s]"
+abbrev pub after : Account → Judged → Account
+after a (Accepted f) = withMinute a f
+after a (Refused r) = a
+
+unfoldable pub addTo : Masses → Account → List ℕ → Added
+addTo m a b = record { answer = answer m a b; account = after a (answer m a b) }

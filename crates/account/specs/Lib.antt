@@ -1,0 +1,5 @@
+pub mod Adding
+pub mod Closing
+pub mod Kept
+pub mod Opening
+pub mod Promises

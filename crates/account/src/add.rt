@@ -1,0 +1,102 @@
+// Adding a minute.
+ghost use mathlib.Core.Path.{_≡_};
+ghost use Prim.Native.Nat.{_≤_, _<_};
+ghost use Rattle.account.specs.Adding.{isFull, withGas, withMinute, answer, addTo};
+ghost use Rattle.account.specs.Kept.{Kept, Small};
+ghost use Rattle.site.specs.Rules.{yearMinutes};
+ghost use Rattle.tool06.specs.Tool.{Masses, Positive};
+use crate::Account;
+use minute::Minute;
+use refusals::Refusal;
+use refusals::Verdict;
+use site::Site;
+use tool06::Figures;
+use tool06::Judged;
+
+// The answer, and the account after it: an enum cannot hold the account's arrays.
+pub struct Added {
+    pub answer: Judged,
+    pub account: Account,
+}
+
+// 1 for a minute with gas.
+fn with_gas(rule: u8) -> u32
+    ensures { λ r. ⌜ r ≡ withGas rule ⌝ }
+{
+    if rule == Figures::NO_GAS { 0 } else { 1 }
+}
+
+impl Account {
+    // Whether the year's last minute is in.
+    pub(crate) fn is_full(self) -> bool
+        ensures { λ r. ⌜ r ≡ isFull self ⌝ }
+    {
+        let site = self.site;
+        site.minutes() <= self.minutes
+    }
+
+    // Whether maintenance is in time on a minute's own day.
+    fn in_time(self, number: u32) -> bool
+        requires { ⌜ Kept self ⌝ }
+        ensures { λ r. ⌜ r ≡ Rattle.account.specs.Adding.«in-time» self number ⌝ }
+    {
+        let maintenance = self.maintenance;
+        let days = maintenance.days;
+        let listed = maintenance.listed;
+        let site = self.site;
+        maintenance::in_time(&days[0..listed], number / Site::DAY_MINUTES, site.days)
+    }
+
+    // The minute's figures and rule, or the first of the refusals 11, 1, 2 and 12 to 19.
+    fn answer(self, bytes: &[u8]) -> Judged
+        requires { ⌜ Kept self ⌝ }
+        ensures { λ r. ⌜ ((m : Masses) → Positive m → r ≡ answer m self (now (bytes .entry))) ⌝ }
+    {
+        let head = records::head(bytes, Minute::BYTES, Minute::VERSION);
+        let verdict = Verdict::Fine.also(self.is_full(), Refusal::Full).then(head);
+        match verdict {
+            Verdict::Refuse(r) => Judged::Refused(r),
+            Verdict::Fine => {
+                let minute = minute::fields_in(bytes);
+                let in_time = self.in_time(minute.number);
+                judge::judge(self.site, minute, minute.number != self.minutes, in_time)
+            }
+        }
+    }
+
+    // The account with one minute more.
+    fn with_minute(mut self, figures: Figures) -> Account
+        requires { ⌜ Kept self ⌝ }
+        requires { ⌜ Small figures ⌝ }
+        requires { ⌜ self .minutes < yearMinutes (self .site .year) ⌝ }
+        ensures { λ r. ⌜ r ≡ withMinute self figures ⌝ }
+    {
+        let rule = figures.rule as usize;
+        let gas = with_gas(figures.rule);
+        self.minutes = self.minutes + 1;
+        self.gas = self.gas + gas;
+        self.fed = self.fed + figures.fed;
+        self.emitted = self.emitted + figures.emitted;
+        self.destroyed = self.destroyed + figures.destroyed;
+        self.counts[rule] = self.counts[rule] + 1;
+        self
+    }
+
+    // Adds a minute from any bytes; a refusal leaves the account as it is.
+    pub fn add(self, bytes: &[u8]) -> Added
+        requires { ⌜ Kept self ⌝ }
+        ensures { λ r. ⌜ ((m : Masses) → Positive m → r ≡ addTo m self (now (bytes .entry))) ⌝ }
+    {
+        let answer = self.answer(bytes);
+        match answer {
+            Judged::Accepted(figures) => Added {
+                answer,
+                account: self.with_minute(figures),
+            },
+            Judged::Refused(_) => Added {
+                answer,
+                account: self,
+            },
+        }
+    }
+}
