@@ -1,0 +1,46 @@
+-- What holds after opening, and stays with each accepted minute, holds of every account that any calls can give.
+use mathlib.Core.Path.{_≡_, refl, sym, subst}
+use mathlib.Core.List.{List, [], _∷_, _++_}
+use Prim.Native.Nat.{ℕ}
+use lib.IntN.{ℤ}
+use Rattle.site.specs.declared.Site.{Site}
+use Rattle.tool06.specs.Bounds.{Entry, figuresOf}
+use Rattle.tool06.specs.Tool.{Masses}
+use Rattle.tool06.specs.declared.figures.Figures.{Figures}
+use Rattle.tool06.specs.declared.figures.Judged.{Judged}
+use Rattle.tool06.specs.declared.figures.Judged.the-variants.{Accepted, Refused}
+use Rattle.account.specs.Adding.{entry, withMinute, after, answer, addTo}
+use Rattle.account.specs.Opening.{opened}
+use Rattle.account.specs.declared.Account.{Account}
+use Rattle.account.proofs.Accepted.{Taken, taken}
+use Rattle.history.specs.History.{Reached, at-first, then, add, check-run, close, chart, co2e, grown}
+
+module _ (m : Masses) (s : Site) (days : List ℤ) (P : Account → List Entry → Type 0) where
+  abbrev OneMore : Account → List Entry → List ℕ → Figures → Type 0
+  OneMore a es bytes f = P (withMinute a f) (es ++ (entry a bytes ∷ []))
+
+  -- it stays with one accepted minute more
+  abbrev Stays : Type 0
+  Stays =
+      (a : Account) (es : List Entry) → Reached m s days a es → P a es →
+      (bytes : List ℕ) → let f = figuresOf m (entry a bytes) in Taken m a bytes f → OneMore a es bytes f
+
+  added : Stays → {a : Account} {es : List Entry} → Reached m s days a es → P a es → (bytes : List ℕ) → P (addTo m a bytes .account) (grown es (entry a bytes) (answer m a bytes))
+  unfolding addTo
+  added more {a} {es} r p bytes = by-answer (answer m a bytes) refl
+    where
+      one-more : (f : Figures) → Taken m a bytes f → OneMore a es bytes f
+      one-more f t =
+          subst (λ (g : Figures). Taken m a bytes g → OneMore a es bytes g) (sym (t .figures-are)) (more a es r p bytes) t
+
+      by-answer : (j : Judged) → answer m a bytes ≡ j → P (after a j) (grown es (entry a bytes) j)
+      by-answer (Accepted f) e = one-more f (taken m a bytes f e)
+      by-answer (Refused why) e = p
+
+  pub every : P (opened s days .account) [] → Stays → {a : Account} {es : List Entry} → Reached m s days a es → P a es
+  every first more at-first = first
+  every first more (then r (add bytes)) = added more r (every first more r) bytes
+  every first more (then r (check-run run)) = every first more r
+  every first more (then r close) = every first more r
+  every first more (then r chart) = every first more r
+  every first more (then r co2e) = every first more r

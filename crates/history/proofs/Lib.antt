@@ -1,0 +1,5 @@
+pub mod Calls
+pub mod Holds
+pub mod Opening
+pub mod Places
+pub mod Promises

@@ -1,0 +1,42 @@
+-- Every account that any calls can give, with the minutes accepted so far.
+use mathlib.Core.List.{List, [], _∷_, _++_}
+use Prim.Native.Nat.{ℕ}
+use lib.IntN.{ℤ}
+use Rattle.site.specs.declared.Site.{Site}
+use Rattle.tool06.specs.Bounds.{Entry}
+use Rattle.tool06.specs.Tool.{Masses}
+use Rattle.tool06.specs.declared.figures.Judged.{Judged}
+use Rattle.tool06.specs.declared.figures.Judged.the-variants.{Accepted, Refused}
+use Rattle.account.specs.Adding.{entry, answer, addTo}
+use Rattle.account.specs.Opening.{opened}
+use Rattle.account.specs.declared.Account.{Account}
+
+-- the calls that take an account, with the bytes lent to them
+pub data Call : Type 0 where
+  add check-run : List ℕ → Call
+  close chart co2e : Call
+
+-- adding gives an account; the other calls give none, and the account is the one it was
+abbrev pub accountAfter : Masses → Account → Call → Account
+accountAfter m a (add bytes) = addTo m a bytes .account
+accountAfter m a (check-run run) = a
+accountAfter m a close = a
+accountAfter m a chart = a
+accountAfter m a co2e = a
+
+-- one minute more, where it is accepted
+abbrev pub grown : List Entry → Entry → Judged → List Entry
+grown es e (Accepted f) = es ++ (e ∷ [])
+grown es e (Refused r) = es
+
+abbrev pub minutesAfter : Masses → Account → List Entry → Call → List Entry
+minutesAfter m a es (add bytes) = grown es (entry a bytes) (answer m a bytes)
+minutesAfter m a es (check-run run) = es
+minutesAfter m a es close = es
+minutesAfter m a es chart = es
+minutesAfter m a es co2e = es
+
+-- the account after opening with this site and this list, and any calls; and the minutes accepted, in their order
+pub data Reached (m : Masses) (s : Site) (days : List ℤ) : Account → List Entry → Type 0 where
+  at-first : Reached m s days (opened s days .account) []
+  then : {a : Account} {es : List Entry} → Reached m s days a es → (c : Call) → Reached m s days (accountAfter m a c) (minutesAfter m a es c)

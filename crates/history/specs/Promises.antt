@@ -1,0 +1,89 @@
+-- What is proved of every account that any calls can give.
+use mathlib.Core.Path.{_≡_}
+use mathlib.Core.List.{List, [], _∷_, _++_}
+use Prim.Native.Nat.{ℕ, suc, _*_, _/_, _<_}
+use lib.Dec.{eqb}
+use lib.IntN.{ℤ}
+use lib.ListN.{length, getD}
+use Rattle.refusals.specs.Tables.{firstOf}
+use Rattle.refusals.specs.declared.refusal.Refusal.{Refusal}
+use Rattle.refusals.specs.declared.refusal.Refusal.the-variants.{Incomplete}
+use Rattle.refusals.specs.declared.verdict.Verdict.the-variants.{Fine, Refuse}
+use Rattle.site.specs.declared.Site.{Site}
+use Rattle.minute.specs.Record.{minuteOf}
+use Rattle.minute.specs.Rules.{minuteLines}
+use Rattle.maintenance.specs.Days.{inTime, listedDays}
+use Rattle.tool06.specs.Bounds.{Bounds, Entry, IsAccepted, figuresOf, emittedOf, destroyedOf, oneIf, gasOf, total, exactTotal}
+use Rattle.tool06.specs.Judged.{oxygenLines}
+use Rattle.tool06.specs.Tool.{Masses, Positive}
+use Rattle.tool06.specs.declared.figures.Figures.{Figures}
+use Rattle.tool06.specs.declared.figures.Judged.the-variants.{Accepted, Refused}
+use Rattle.account.specs.Adding.{notNext, recordLines, addLines, answer, addTo}
+use Rattle.account.specs.Closing.{co2e, closing}
+use Rattle.account.specs.Kept.{Kept}
+use Rattle.account.specs.Opening.{openLines}
+use Rattle.account.specs.declared.Account.{Account}
+use Rattle.account.specs.declared.close.Closed.the-variants.{Refused as NotClosed}
+use Rattle.history.specs.History.{Reached}
+
+-- the minute e is minute k of the year at this site, accepted, with maintenance in time by this list on its own day
+pub record InPlace (s : Site) (days : List ℤ) (k : ℕ) (e : Entry) : Type 0 where
+  pub site-is : e .site ≡ s
+  pub number-is : e .minute .number ≡ k
+  pub in-time-is : e .inTime ≡ inTime days (k / 1440) (s .days)
+  pub accepted : IsAccepted e
+
+-- minutes k, k + 1 and so on
+abbrev pub FromMinute : Site → List ℤ → ℕ → List Entry → Type 0
+FromMinute s days k [] = Unit {0}
+FromMinute s days k (e ∷ es) = InPlace s days k e × FromMinute s days (suc k) es
+
+-- what the account holds is the sum, or the number, over exactly these minutes
+pub record Holds (m : Masses) (a : Account) (es : List Entry) : Type 0 where
+  pub minutes-are : a .minutes ≡ length es
+  pub gas-is : a .gas ≡ total gasOf es
+  pub fed-is : a .fed ≡ total (λ e. figuresOf m e .fed) es
+  pub emitted-is : a .emitted ≡ total (λ e. figuresOf m e .emitted) es
+  pub destroyed-is : a .destroyed ≡ total (λ e. figuresOf m e .destroyed) es
+  -- "each count is the number of accepted minutes under that rule"
+  pub counts-are : (k : ℕ) → k < 10 → getD (a .counts) k 0 ≡ total (λ e. oneIf (eqb (figuresOf m e .rule) k)) es
+  -- "CO2 equivalent, in mg, is GWP times the emitted sum"
+  pub co2e-is : co2e a ≡ a .site .gwp * total (λ e. figuresOf m e .emitted) es
+
+-- for every account that any calls can give
+abbrev pub OfEvery : ((m : Masses) (s : Site) (days : List ℤ) (a : Account) (es : List Entry) → Type 0) → Type 0
+OfEvery P = (m : Masses) → Positive m → (s : Site) (days : List ℤ) (a : Account) (es : List Entry) → Reached m s days a es → P m s days a es
+
+-- the accepted minutes are the first minutes of the year, each judged at its site and for its own day; the account holds just them
+abbrev pub Histories : Type 0
+Histories = OfEvery (λ m s days a es. FromMinute s days 0 es × Holds m a es)
+
+-- an account that was opened stays that of its site and its list
+abbrev pub OpenedStays : Type 0
+OpenedStays = OfEvery (λ m s days a es. firstOf (openLines s days) ≡ Fine → (a .site ≡ s) × (listedDays (a .maintenance) ≡ days))
+
+-- what the calls require
+abbrev pub EveryKept : Type 0
+EveryKept = OfEvery (λ m s days a es. Kept a)
+
+-- demand 3: "For any calls on an account, beside the tool's own equations as exact fractions, for any positive molecular mass"
+abbrev pub DemandThree : Type 0
+DemandThree = OfEvery (λ m s days a es.
+    Bounds (a .gas) (a .fed) (a .emitted) (a .destroyed) (exactTotal (emittedOf m) es) (exactTotal (destroyedOf m) es))
+
+-- "A refusal returns its number and nothing else; the account .. stay[s]"
+abbrev pub RefusedStays : Type 0
+RefusedStays = (m : Masses) (a : Account) (bytes : List ℕ) (r : Refusal) → answer m a bytes ≡ Refused r → addTo m a bytes .account ≡ a
+
+-- "Adding a minute: 11, 1, 2, 12 to 19": once opening was not refused, no site's refusal comes between
+abbrev pub AddsInOrder : Type 0
+AddsInOrder = OfEvery (λ m s days a es.
+    firstOf (openLines s days) ≡ Fine → (bytes : List ℕ) →
+    let n = minuteOf bytes in
+    firstOf (addLines a bytes) ≡ firstOf (recordLines a bytes ++ minuteLines (notNext a n) n ++ oxygenLines s n))
+
+-- the account beside a refused opening takes no minute, and does not close
+abbrev pub RefusedOpening : Type 0
+RefusedOpening = OfEvery (λ m s days a es.
+    (r : Refusal) → firstOf (openLines s days) ≡ Refuse r →
+    (es ≡ []) × ((bytes : List ℕ) (f : Figures) → answer m a bytes ≡ Accepted f → ⊥) × (closing a ≡ NotClosed Incomplete))
