@@ -73,11 +73,14 @@ impl Account {
     {
         let rule = figures.rule as usize;
         let gas = with_gas(figures.rule);
+        let fed = figures.fed;
+        let emitted = figures.emitted;
+        let destroyed = figures.destroyed;
         self.minutes = self.minutes + 1;
         self.gas = self.gas + gas;
-        self.fed = self.fed + figures.fed;
-        self.emitted = self.emitted + figures.emitted;
-        self.destroyed = self.destroyed + figures.destroyed;
+        self.fed = self.fed + fed;
+        self.emitted = self.emitted + emitted;
+        self.destroyed = self.destroyed + destroyed;
         self.counts[rule] = self.counts[rule] + 1;
         self
     }

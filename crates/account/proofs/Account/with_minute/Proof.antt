@@ -26,7 +26,7 @@ add-self-2 c =
 
 add-self-6 : tie.Need-add-self-6
 add-self-6 c =
-    let e = c .before .before .before .before .before .before in
+    let e = c .before .before .before in
     let y = year-within (e .args .t1 .site .year) .1 in
     let n = e .pre .0 .minutes-within in
     let s = e .pre .0 .counts-sum in
@@ -35,7 +35,7 @@ add-self-6 c =
 
 returns : tie.Need-returns
 unfolding withMinute
-returns c = rw (c .before .before .before .before .with-gas .ensures)
+returns c = rw (c .before .with-gas .ensures)
 
 pub with-minute-spec : {M : Type 1} → statement M
 with-minute-spec =
