@@ -38,7 +38,9 @@ sum-within {a} k x h =
     omega arith
 
 -- below 2^53 mg
+pub gwp-times : {a : Account} → Kept a → (x : ℕ) → x ≤ a .gas * 71600000 → a .site .gwp * x ≤ 3773606400000000
+gwp-times {a} k x h = mul-within (a .site .gwp) x 100 37736064000000 (k .gwp-within) (sum-within k x h)
+
 pub co2e-within : {a : Account} → Kept a → co2e a ≤ 3773606400000000
 unfolding co2e
-co2e-within {a} k =
-    mul-within (a .site .gwp) (a .emitted) 100 37736064000000 (k .gwp-within) (sum-within k (a .emitted) (k .emitted-within))
+co2e-within {a} k = gwp-times k (a .emitted) (k .emitted-within)
