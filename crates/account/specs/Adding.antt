@@ -1,7 +1,7 @@
 -- Document 01, "Adding a minute: 11, 1, 2, 12 to 19", and what an accepted minute adds.
 use Prim.Native.Nat.{ℕ, _+_, _/_}
 use mathlib.Core.Bool.{Bool, not}
-use mathlib.Core.List.{List, [], _∷_, _++_}
+use mathlib.Core.List.{List, _∷_, _++_}
 use lib.Dec.{leb, eqb}
 use lib.ListN.{getD, set}
 use Rattle.refusals.specs.Tables.{Line, when, firstOf}

@@ -1,6 +1,6 @@
 // Adding a minute.
 ghost use mathlib.Core.Path.{_≡_};
-ghost use Prim.Native.Nat.{_≤_, _<_};
+ghost use Prim.Native.Nat.{_<_};
 ghost use Rattle.account.specs.Adding.{isFull, withGas, withMinute, answer, addTo};
 ghost use Rattle.account.specs.Kept.{Kept, Small};
 ghost use Rattle.site.specs.Rules.{yearMinutes};

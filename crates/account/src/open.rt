@@ -1,7 +1,6 @@
 // Opening an account.
 ghost use mathlib.Core.Path.{_≡_};
 ghost use Rattle.account.specs.Opening.{lastDay, fresh, noSite, opened};
-ghost use Rattle.maintenance.specs.Days.{maintenanceOf};
 use crate::Account;
 use maintenance::Maintenance;
 use refusals::Refusal;

@@ -1,14 +1,13 @@
-use mathlib.Core.Path.{_≡_, refl, sym, ap, _∙_}
+use mathlib.Core.Path.{_≡_, refl, sym, _∙_}
 use mathlib.Core.Bool.{Bool, true, false}
 use mathlib.Core.List.{List, _∷_}
 use borrow.Author.Needs.{needs}
 use Rattle.refusals.specs.Tables.{Line, when, firstOf, also, after}
 use Rattle.refusals.specs.declared.refusal.Refusal.{Refusal}
 use Rattle.refusals.specs.declared.refusal.Refusal.the-variants.{Full}
-use Rattle.refusals.specs.declared.verdict.Verdict.{Verdict}
 use Rattle.refusals.specs.declared.verdict.Verdict.the-variants.{Fine}
 use Rattle.records.proofs.Reading.{by-head, by-fields}
-use Rattle.records.specs.House.{answered, headLines}
+use Rattle.records.specs.House.{headLines}
 use Rattle.minute.specs.Record.{minuteOf}
 use Rattle.tool06.specs.Bounds.{figuresOf}
 use Rattle.tool06.specs.Judged.{judged, judgedLines}
