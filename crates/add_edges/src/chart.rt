@@ -19,7 +19,8 @@ pub fn print(full: Account)
     say::text(b"\nF. Chart points: methane fed and CO2 equivalent in tonnes, each an f64\n");
     early();
     point(b"one year", full);
-    largest();
+    largest(b"the largest ordinary year", 2027);
+    largest(b"the largest leap year", 2028);
 }
 
 fn early() {
@@ -29,23 +30,23 @@ fn early() {
     point(b"one day", fill::up_to(opened.account, Site::DAY_MINUTES));
 }
 
-// A leap year of pure methane at the highest flow, never lit, at the highest GWP.
-fn largest() {
+// A year of pure methane at the highest flow, never lit, at the highest GWP.
+fn largest(words: &[u8], year: u16) {
     let mut site = sites::good();
-    site.year = 2028;
+    site.year = year;
     site.gwp = Site::MOST_GWP;
     let opened = kept::open(site, &[]);
-    let full = unlit(opened.account);
-    point(b"the largest year", full);
-    answer::close(b"the largest year, closing", full);
+    let full = unlit(opened.account, site.minutes());
+    point(words, full);
+    answer::close(b"- closing", full);
 }
 
-fn unlit(account: Account) -> Account
+fn unlit(account: Account, minutes: u32) -> Account
     requires { ⌜ Kept account ⌝ }
     ensures { λ r. ⌜ Kept r ⌝ }
 {
     let mut current = account;
-    for n in 0..Site::LEAP_MINUTES {
+    for n in 0..minutes {
         let bytes = written::record(unlit_minute(n));
         let added = kept::add(current, &bytes);
         current = added.account;

@@ -1,8 +1,7 @@
-// Prints when maintenance is in time, the refusals of a minute, and chart points.
+// Prints the refusals of a minute, and chart points.
 ghost use Rattle.account.specs.Kept.{Kept};
 
 mod chart;
-mod maintained;
 mod refused;
 mod shown;
 
@@ -14,7 +13,6 @@ use year_samples::kept;
 
 pub fn print() {
     let full = whole_year();
-    maintained::print();
     refused::print();
     refused::print_full(full);
     chart::print(full);

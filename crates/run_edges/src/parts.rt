@@ -21,6 +21,8 @@ fn days(space: &[u8]) {
     part(b"", space, 0);
     part(b"", space, 1);
     part(b"", space, 2);
+    // So many days' bytes are a multiple of 2^32.
+    part(b"", space, 67_108_864);
     part(b"", space, 4_294_967_295);
     cut(b"one byte short, ", space, 155_519, 1);
     cut(b"no record, ", space, 0, 0);

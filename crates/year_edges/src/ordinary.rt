@@ -39,6 +39,7 @@ pub fn year(account: Account, minutes: u32)
     one_more(full, minutes);
 }
 
+// No record holds the leap year's, so that one is of zeros.
 fn one_more(full: Account, number: u32)
     requires { ⌜ Kept full ⌝ }
 {

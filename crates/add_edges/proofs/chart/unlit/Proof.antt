@@ -5,10 +5,10 @@ use Rattle.add_edges.proofs.chart.unlit.Statement.{statement}
 use Rattle.add_edges.proofs.chart.unlit.Tie as tie
 
 abbrev Inv-loop : tie.InvT-loop
-Inv-loop current₀ n₀ current n = (n ≤ 527040) × Kept current
+Inv-loop minutes current₀ n₀ current n = (n ≤ minutes) × Kept current
 
 abbrev μ-loop : tie.MeasureT-loop
-μ-loop current₀ n₀ current n = 527040 - n
+μ-loop minutes current₀ n₀ current n = minutes - n
 
 pub unlit-spec : {M : Type 1} → statement M
 unlit-spec =

@@ -1,8 +1,8 @@
 use Prim.Native.Nat.{_≤_, _-_}
 use Rattle.account.specs.Kept.{Kept}
 use borrow.Author.Needs.{needs}
-use Rattle.add_edges.proofs.maintained.through.Statement.{statement}
-use Rattle.add_edges.proofs.maintained.through.Tie as tie
+use Rattle.year_edges.proofs.maintained.through.Statement.{statement}
+use Rattle.year_edges.proofs.maintained.through.Tie as tie
 
 abbrev Inv-loop : tie.InvT-loop
 Inv-loop current₀ i₀ current i = (i ≤ 8) × Kept current
