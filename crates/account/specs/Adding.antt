@@ -40,7 +40,7 @@ entry a b = record { site = a .site; minute = minuteOf b; inTime = in-time a (mi
 abbrev pub recordLines : Account → List ℕ → List Line
 recordLines a b = when (isFull a) Full ∷ headLines 54 1 b
 
--- then 12 to 19; before them stand 3 to 9, which give nothing, since opening examined the site
+-- then 12 to 19; before them stand 3 to 9, which give nothing where opening was not refused
 unfoldable pub addLines : Account → List ℕ → List Line
 addLines a b = recordLines a b ++ judgedLines (notNext a (minuteOf b)) (a .site) (minuteOf b)
 
