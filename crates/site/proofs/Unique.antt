@@ -9,6 +9,7 @@ use Rattle.site.proofs.Site.minutes.Reads as minutes
 use Rattle.site.proofs.Site.read.Reads as read
 use Rattle.site.proofs.Site.verdict.Reads as verdict
 use Rattle.site.proofs.Site.write.Reads as write
+use Rattle.site.proofs.read.fields_in.Reads as fields-in
 
 pub read-one : (κs : _) (a : _) → OneResult (read.Learnt κs a)
 read-one κs a x y e f p q = p ∙ sym q
@@ -26,3 +27,6 @@ minutes-one κs a x y e f p q = p ∙ sym q
 
 pub is-open-one : (κs : _) (a : _) → OneResult (is-open.Learnt κs a)
 is-open-one κs a x y e f p q = p ∙ sym q
+
+pub fields-in-one : (κs : _) (a : _) → OneResult (fields-in.Learnt κs a)
+fields-in-one κs a x y e f p q = p ∙ sym q

@@ -2,6 +2,7 @@
 mod read;
 mod write;
 
+pub use read::fields_in;
 ghost use mathlib.Core.Path.{_≡_};
 ghost use Rattle.refusals.specs.Tables.{firstOf};
 ghost use Rattle.site.specs.Rules.{temperaturesWrong, flowsWrong, isOpen, yearMinutes, siteLines};

@@ -15,7 +15,7 @@ impl Site {
         match records::head(bytes, Site::BYTES, Site::VERSION) {
             Verdict::Refuse(r) => SiteRead::Refused(r),
             Verdict::Fine => {
-                let site = site_in(bytes);
+                let site = fields_in(bytes);
                 match site.verdict() {
                     Verdict::Fine => SiteRead::Fields(site),
                     Verdict::Refuse(r) => SiteRead::Refused(r),
@@ -25,7 +25,8 @@ impl Site {
     }
 }
 
-fn site_in(b: &[u8]) -> Site
+// The fields of a record's bytes, not yet examined.
+pub fn fields_in(b: &[u8]) -> Site
     ensures { λ r. ⌜ r ≡ siteOf (now (b .entry)) ⌝ }
 {
     let temperature = Temperatures {

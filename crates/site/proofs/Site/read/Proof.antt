@@ -11,14 +11,14 @@ use Rattle.site.proofs.Site.read.Statement.{statement}
 use Rattle.site.proofs.Site.read.Tie as tie
 
 -- the head's verdict decides, and then the fields'
-came : (v : tie.After-verdict) {w : Verdict} → v .verdict .result ≡ w → answered Fields Refused (v .before .site-in .result) w ≡ readSite (now (v .before .before .before .before .before .before .args .bytes))
+came : (v : tie.After-verdict) {w : Verdict} → v .verdict .result ≡ w → answered Fields Refused (v .before .fields-in .result) w ≡ readSite (now (v .before .before .before .before .before .before .args .bytes))
 unfolding readSite
 came v {w} e =
     let t = v .before .before in
     let b = now (t .before .before .before .before .args .bytes) in
-    by-fields Fields Refused siteLines (siteOf b) (headLines 30 1 b) (v .before .site-in .result) w
+    by-fields Fields Refused siteLines (siteOf b) (headLines 30 1 b) (v .before .fields-in .result) w
     (sym (t .before .before .head .ensures) ∙ t .enum-told .given .1)
-    (v .before .site-in .ensures)
+    (v .before .fields-in .ensures)
     (sym e ∙ v .verdict .ensures)
 
 returns : tie.Need-returns
