@@ -1,4 +1,5 @@
 pub mod Accepted
+pub mod Counting
 pub mod Laws
 pub mod Lossless
 pub mod Unique

@@ -1,8 +1,11 @@
 // Adding a minute.
 ghost use mathlib.Core.Path.{_≡_};
-ghost use Prim.Native.Nat.{_<_};
-ghost use Rattle.account.specs.Adding.{isFull, withGas, withMinute, answer, addTo};
-ghost use Rattle.account.specs.Kept.{Kept, Small};
+ghost use Prim.Native.Nat.{_+_, _≤_, _<_};
+ghost use lib.Dec.{eqb};
+ghost use lib.ListN.{length, getD};
+ghost use Rattle.account.specs.Adding.{isFull, withGas, oneMore, withMinute, answer, addTo};
+ghost use Rattle.account.specs.Kept.{sum, Kept, Small};
+ghost use Rattle.tool06.specs.Bounds.{oneIf};
 ghost use Rattle.site.specs.Rules.{yearMinutes};
 ghost use Rattle.tool06.specs.Tool.{Masses, Positive};
 use crate::Account;
@@ -24,6 +27,37 @@ fn with_gas(rule: u8) -> u32
     ensures { λ r. ⌜ r ≡ withGas rule ⌝ }
 {
     if rule == Figures::NO_GAS { 0 } else { 1 }
+}
+
+// The count at a place, with one more where it is the rule's.
+fn counted(counts: [u32; 10], place: usize, rule: u8) -> u32
+    requires { ⌜ (place < 10) × (sum counts ≤ 527040) ⌝ }
+    ensures { λ r. ⌜ r ≡ getD counts place 0 + oneIf (eqb rule place) ⌝ }
+{
+    if rule as usize == place {
+        counts[place] + 1
+    } else {
+        counts[place]
+    }
+}
+
+// One more under a rule. Each count is made anew, since an array that is stored to at one place is slow to copy afterwards.
+fn one_more(counts: [u32; 10], rule: u8) -> [u32; 10]
+    requires { ⌜ (length counts ≡ 10) × (sum counts ≤ 527040) ⌝ }
+    ensures { λ r. ⌜ r ≡ oneMore counts rule ⌝ }
+{
+    [
+        counted(counts, 0, rule),
+        counted(counts, 1, rule),
+        counted(counts, 2, rule),
+        counted(counts, 3, rule),
+        counted(counts, 4, rule),
+        counted(counts, 5, rule),
+        counted(counts, 6, rule),
+        counted(counts, 7, rule),
+        counted(counts, 8, rule),
+        counted(counts, 9, rule),
+    ]
 }
 
 impl Account {
@@ -71,8 +105,10 @@ impl Account {
         requires { ⌜ self .minutes < yearMinutes (self .site .year) ⌝ }
         ensures { λ r. ⌜ r ≡ withMinute self figures ⌝ }
     {
-        let rule = figures.rule as usize;
-        let gas = with_gas(figures.rule);
+        let rule = figures.rule;
+        let counts = self.counts;
+        let raised = one_more(counts, rule);
+        let gas = with_gas(rule);
         let fed = figures.fed;
         let emitted = figures.emitted;
         let destroyed = figures.destroyed;
@@ -81,7 +117,7 @@ impl Account {
         self.fed = self.fed + fed;
         self.emitted = self.emitted + emitted;
         self.destroyed = self.destroyed + destroyed;
-        self.counts[rule] = self.counts[rule] + 1;
+        self.counts = raised;
         self
     }
 
