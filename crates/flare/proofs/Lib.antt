@@ -1,0 +1,5 @@
+pub mod Pieces
+pub mod Records
+pub mod Reports
+pub mod Sofar
+pub mod Within

@@ -1,0 +1,6 @@
+pub mod Decimals
+pub mod NoneCut
+pub mod Placing
+pub mod Putting
+pub mod ReadsBack
+pub mod Unique

@@ -1,0 +1,48 @@
+-- No line is cut: each is its pieces, and each piece has so many bytes at most.
+use Prim.Native.Nat.{ℕ, _≤_}
+use native.Mathlib.Omega.{arith}
+use lib.ListN.{length, length-append}
+use Rattle.refusals.specs.Refusals.{numberOf}
+use Rattle.refusals.specs.declared.refusal.Refusal.{Refusal}
+use Rattle.tool06.specs.declared.figures.Judged.{Judged}
+use Rattle.tool06.specs.declared.figures.Judged.the-variants.{Accepted, Refused}
+use Rattle.account.specs.Closing.{co2e, closing}
+use Rattle.account.specs.declared.Account.{Account}
+use Rattle.account.specs.declared.close.Closed.{Closed}
+use Rattle.account.specs.declared.close.Closed.the-variants.{Tonnes, Refused as Missing}
+use Rattle.lines.specs.Lines.{masses, acceptedLine, refusedLine, minuteLine, totalLine, standing, yearLine, siteLine}
+use Rattle.lines.specs.Promises.{NoneCut}
+use Rattle.lines.proofs.Decimals.{decimal-within}
+
+masses-within : (fed emitted destroyed : ℕ) → length (masses fed emitted destroyed) ≤ 85
+unfolding masses
+masses-within fed emitted destroyed =
+    simp length-append (omega (arith, decimal-within fed, decimal-within emitted, decimal-within destroyed))
+
+minute-within : (minute : ℕ) (answer : Judged) → length (minuteLine minute answer) ≤ 163
+unfolding acceptedLine refusedLine
+minute-within minute (Accepted f) =
+    simp length-append (omega (arith, decimal-within minute, decimal-within (f .rule), masses-within (f .fed) (f .emitted) (f .destroyed)))
+minute-within minute (Refused r) =
+    simp length-append (omega (arith, decimal-within minute, decimal-within (numberOf r)))
+
+total-within : (a : Account) → length (totalLine a) ≤ 163
+unfolding totalLine
+total-within a =
+    simp length-append (omega (arith, decimal-within (a .minutes), decimal-within (a .gas), masses-within (a .fed) (a .emitted) (a .destroyed), decimal-within (co2e a)))
+
+standing-within : (closed : Closed) → length (standing closed) ≤ 28
+unfolding standing
+standing-within (Tonnes t) = simp length-append (omega (arith, decimal-within t))
+standing-within (Missing r) = omega arith
+
+year-within : (a : Account) → length (yearLine a) ≤ 163
+unfolding yearLine
+year-within a = simp length-append (omega (arith, decimal-within (a .site .year), standing-within (closing a)))
+
+site-within : (r : Refusal) → length (siteLine r) ≤ 163
+unfolding siteLine
+site-within r = simp length-append (omega (arith, decimal-within (numberOf r)))
+
+pub none-cut : NoneCut
+none-cut minute answer a r = (minute-within minute answer, total-within a, year-within a, site-within r)

@@ -1,0 +1,15 @@
+-- A line put where there is room for any line, and where there is none.
+use Prim.Native.Nat.{ℕ, _+_, _≤_, _<_}
+use mathlib.Core.Path.{_≡_, refl}
+use mathlib.Core.List.{List}
+use lib.ListN.{length}
+use borrow.Author.Tests.{le-leb, lt-leb}
+use Rattle.lines.specs.Places.{placed, placeAfter, Written}
+
+pub there : {b line b' : List ℕ} {at next : ℕ} → at + 163 ≤ length b → Written b at line b' next → (next ≡ placeAfter b at line) × (b' ≡ placed b at line)
+unfolding placed placeAfter
+there h w = rw (le-leb _ _ h) (w .place, w .holds)
+
+pub nowhere : (b : List ℕ) (at : ℕ) (line : List ℕ) → length b < at + 163 → (at ≡ placeAfter b at line) × (b ≡ placed b at line)
+unfolding placed placeAfter
+nowhere b at line h = rw (lt-leb _ _ h) (refl, refl)

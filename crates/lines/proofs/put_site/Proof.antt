@@ -1,0 +1,34 @@
+use native.Mathlib.Omega.{arith}
+use borrow.Author.Needs.{needs}
+use Rattle.lines.specs.Lines.{siteLine}
+use Rattle.lines.proofs.Putting.{onward}
+use Rattle.lines.proofs.Placing.{there, nowhere}
+use Rattle.lines.proofs.put_site.Statement.{statement}
+use Rattle.lines.proofs.put_site.Tie as tie
+
+returns : tie.Need-returns
+unfolding siteLine
+returns c =
+    let end = c .before .before in
+    let refused = end .before .before .before .before .before in
+    let number = rw (refused .before .number .ensures) at (refused .put-field .ensures .0) in
+    there (omega arith) (onward number (end .put-text .ensures))
+
+returns-2 : tie.Need-returns-2
+returns-2 c = nowhere _ _ _ (omega arith)
+
+pub put-site-spec : {M : Type 1} → statement M
+put-site-spec =
+    tie.close
+    (tie.spec
+    (search needs)
+    (search needs)
+    (search needs)
+    (search needs)
+    (search needs)
+    (search needs)
+    (search needs)
+    (search needs)
+    returns
+    (search needs)
+    returns-2)

@@ -1,0 +1,60 @@
+-- Document 01, "The program `flare`": the lines that it prints.
+use Prim.Native.Nat.{ℕ}
+use mathlib.Core.List.{List, _++_}
+use Rattle.refusals.specs.Refusals.{numberOf}
+use Rattle.refusals.specs.declared.refusal.Refusal.{Refusal}
+use Rattle.tool06.specs.declared.figures.Figures.{Figures}
+use Rattle.tool06.specs.declared.figures.Judged.{Judged}
+use Rattle.tool06.specs.declared.figures.Judged.the-variants.{Accepted, Refused}
+use Rattle.account.specs.Closing.{co2e, closing}
+use Rattle.account.specs.declared.Account.{Account}
+use Rattle.account.specs.declared.close.Closed.{Closed}
+use Rattle.account.specs.declared.close.Closed.the-variants.{Tonnes, Refused as Missing}
+use Rattle.lines.specs.Text.{text, decimal}
+
+-- methane in mg, of a minute or of a year
+unfoldable pub masses : ℕ → ℕ → ℕ → List ℕ
+masses fed emitted destroyed =
+    text " fed " ++ decimal fed
+    ++ text " emitted " ++ decimal emitted
+    ++ text " destroyed " ++ decimal destroyed
+
+-- "Minute, rule, three mg figures"
+unfoldable pub acceptedLine : ℕ → Figures → List ℕ
+acceptedLine minute f =
+    text "minute " ++ decimal minute
+    ++ text " rule " ++ decimal (f .rule)
+    ++ masses (f .fed) (f .emitted) (f .destroyed)
+    ++ text "\n"
+
+-- "`minute E refused R`, E the expected minute"
+unfoldable pub refusedLine : ℕ → Refusal → List ℕ
+refusedLine minute r =
+    text "minute " ++ decimal minute
+    ++ text " refused " ++ decimal (numberOf r)
+    ++ text "\n"
+
+abbrev pub minuteLine : ℕ → Judged → List ℕ
+minuteLine minute (Accepted f) = acceptedLine minute f
+minuteLine minute (Refused r) = refusedLine minute r
+
+-- "then minutes accepted, minutes with gas, sums"
+unfoldable pub totalLine : Account → List ℕ
+totalLine a =
+    text "total " ++ decimal (a .minutes)
+    ++ text " gas " ++ decimal (a .gas)
+    ++ masses (a .fed) (a .emitted) (a .destroyed)
+    ++ text " co2e " ++ decimal (co2e a)
+    ++ text "\n"
+
+-- "`open` becomes `tonnes T` when closed"
+unfoldable pub standing : Closed → List ℕ
+standing (Tonnes t) = text " tonnes " ++ decimal t
+standing (Missing r) = text " open"
+
+unfoldable pub yearLine : Account → List ℕ
+yearLine a = text "year " ++ decimal (a .site .year) ++ standing (closing a) ++ text "\n"
+
+-- "A refused site prints only `site refused R`"
+unfoldable pub siteLine : Refusal → List ℕ
+siteLine r = text "site refused " ++ decimal (numberOf r) ++ text "\n"

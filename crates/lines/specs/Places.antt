@@ -1,0 +1,25 @@
+-- Where a line is put in a buffer: from a place on, if there is room for any line there; else nowhere.
+use Prim.Native.Nat.{ℕ, _+_}
+use mathlib.Core.Path.{_≡_}
+use mathlib.Core.Bool.{Bool, cond}
+use mathlib.Core.List.{List}
+use lib.Dec.{leb}
+use lib.ListN.{length}
+use Rattle.exact.specs.Bytes.{put}
+
+-- no line is longer than 163 bytes: 43 of words and line end, and six numbers of at most 20 digits
+abbrev pub hasRoom : List ℕ → ℕ → Bool
+hasRoom buffer at = leb (at + 163) (length buffer)
+
+-- what the buffer then holds
+unfoldable pub placed : List ℕ → ℕ → List ℕ → List ℕ
+placed buffer at line = cond (hasRoom buffer at) (put buffer at line) buffer
+
+-- the place after it
+unfoldable pub placeAfter : List ℕ → ℕ → List ℕ → ℕ
+placeAfter buffer at line = cond (hasRoom buffer at) (at + length line) at
+
+-- text put from a place on: what the buffer then holds, and the place after the text
+pub record Written (buffer : List ℕ) (at : ℕ) (text : List ℕ) (after : List ℕ) (next : ℕ) : Type 0 where
+  pub holds : after ≡ put buffer at text
+  pub place : next ≡ at + length text
