@@ -58,6 +58,11 @@ unfolding last
 length-last zero n = refl
 length-last (suc k) n = length-append (last k (n / 10)) (digit (n % 10) ∷ []) ∙ omega (arith, length-last k (n / 10))
 
+pub last-one : (k n : ℕ) → 1 ≤ k → last k n ≡ last (k - 1) (n / 10) ++ (digit (n % 10) ∷ [])
+unfolding last
+last-one zero n h = absurd (omega arith)
+last-one (suc k) n h = let less : suc k - 1 ≡ k = omega arith in rw less
+
 pub last-two : (k n : ℕ) → 2 ≤ k → last k n ≡ last (k - 2) (n / 100) ++ (digit (n % 100 / 10) ∷ digit (n % 100 % 10) ∷ [])
 unfolding last
 last-two zero n h = absurd (omega arith)

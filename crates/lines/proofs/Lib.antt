@@ -1,4 +1,5 @@
 pub mod Decimals
+pub mod Filling
 pub mod NoneCut
 pub mod Placing
 pub mod Putting

@@ -10,26 +10,26 @@ use Rattle.account.specs.Closing.{co2e, closing}
 use Rattle.account.specs.declared.Account.{Account}
 use Rattle.account.specs.declared.close.Closed.{Closed}
 use Rattle.account.specs.declared.close.Closed.the-variants.{Tonnes, Refused as Missing}
-use Rattle.lines.specs.Lines.{masses, acceptedLine, refusedLine, minuteLine, totalLine, standing, yearLine, siteLine}
+use Rattle.lines.specs.Lines.{methane, acceptedLine, refusedLine, minuteLine, totalLine, standing, yearLine, siteLine}
 use Rattle.lines.specs.Promises.{NoneCut}
 use Rattle.lines.proofs.Decimals.{decimal-within}
 
-masses-within : (fed emitted destroyed : ℕ) → length (masses fed emitted destroyed) ≤ 85
-unfolding masses
-masses-within fed emitted destroyed =
+methane-within : (fed emitted destroyed : ℕ) → length (methane fed emitted destroyed) ≤ 85
+unfolding methane
+methane-within fed emitted destroyed =
     simp length-append (omega (arith, decimal-within fed, decimal-within emitted, decimal-within destroyed))
 
 minute-within : (minute : ℕ) (answer : Judged) → length (minuteLine minute answer) ≤ 163
 unfolding acceptedLine refusedLine
 minute-within minute (Accepted f) =
-    simp length-append (omega (arith, decimal-within minute, decimal-within (f .rule), masses-within (f .fed) (f .emitted) (f .destroyed)))
+    simp length-append (omega (arith, decimal-within minute, decimal-within (f .rule), methane-within (f .fed) (f .emitted) (f .destroyed)))
 minute-within minute (Refused r) =
     simp length-append (omega (arith, decimal-within minute, decimal-within (numberOf r)))
 
 total-within : (a : Account) → length (totalLine a) ≤ 163
 unfolding totalLine
 total-within a =
-    simp length-append (omega (arith, decimal-within (a .minutes), decimal-within (a .gas), masses-within (a .fed) (a .emitted) (a .destroyed), decimal-within (co2e a)))
+    simp length-append (omega (arith, decimal-within (a .minutes), decimal-within (a .gas), methane-within (a .fed) (a .emitted) (a .destroyed), decimal-within (co2e a)))
 
 standing-within : (closed : Closed) → length (standing closed) ≤ 28
 unfolding standing

@@ -1,15 +1,13 @@
 -- Text put into a buffer, piece after piece.
 use Prim.Native.Nat.{ℕ, _+_, _≤_}
-use Prim.Native.String.{String}
 use mathlib.Core.Path.{_≡_, refl, sym, ap, _∙_}
-use mathlib.Core.List.{List, [], _∷_, _++_, append-assoc}
+use mathlib.Core.List.{List, [], _∷_, _++_}
 use native.Mathlib.Nat.{add-zero}
 use native.Mathlib.Omega.{arith}
 use lib.ListN.{length, set, length-append}
 use lib.Seq.{set-comm}
 use Rattle.exact.specs.Bytes.{put}
 use Rattle.lines.specs.Places.{Written}
-use Rattle.lines.specs.Text.{text, decimal}
 
 put-put : (b : List ℕ) (k : ℕ) (xs ys : List ℕ) → put (put b k xs) (k + length xs) ys ≡ put b k (xs ++ ys)
 unfolding put
@@ -26,7 +24,11 @@ put-set b k (y ∷ ys) i x h =
     put-set (set b k y) (k + 1) ys i x (omega arith)
     ∙ ap (λ (l : List ℕ). put l (k + 1) ys) (set-comm b k i y x (λ e. omega arith))
 
--- two bytes behind what is put may be set first
+-- one byte behind what is put may be set first, and so may two
+pub put-end : (b : List ℕ) (k : ℕ) (xs : List ℕ) (x : ℕ) → put b k (xs ++ (x ∷ [])) ≡ put (set b (k + length xs) x) k xs
+unfolding put
+put-end b k xs x = sym (put-put b k xs (x ∷ [])) ∙ put-set b k xs (k + length xs) x (omega arith)
+
 pub put-pair : (b : List ℕ) (k : ℕ) (xs : List ℕ) (x y : ℕ)
     → put b k (xs ++ (x ∷ y ∷ [])) ≡ put (set (set b (k + length xs) x) (k + length xs + 1) y) k xs
 unfolding put
@@ -43,7 +45,3 @@ onward {b = b} {xs = xs} {ys = ys} {at = at} p q =
       holds = q .holds ∙ rw (p .holds, p .place) (put-put b at xs ys);
       place = rw (length-append xs ys) (omega (arith, p .place, q .place));
     }
-
--- a piece, and a word and a number behind it
-pub field : {b b' b'' xs : List ℕ} {at next end : ℕ} (word : String) (n : ℕ) → Written b at xs b' next → Written b' next (text word ++ decimal n) b'' end → Written b at (xs ++ text word ++ decimal n) b'' end
-field word n p q = rw append-assoc (onward p q)

@@ -13,8 +13,8 @@ use Rattle.account.specs.declared.close.Closed.the-variants.{Tonnes, Refused as
 use Rattle.lines.specs.Text.{text, decimal}
 
 -- methane in mg, of a minute or of a year
-unfoldable pub masses : ℕ → ℕ → ℕ → List ℕ
-masses fed emitted destroyed =
+unfoldable pub methane : ℕ → ℕ → ℕ → List ℕ
+methane fed emitted destroyed =
     text " fed " ++ decimal fed
     ++ text " emitted " ++ decimal emitted
     ++ text " destroyed " ++ decimal destroyed
@@ -24,7 +24,7 @@ unfoldable pub acceptedLine : ℕ → Figures → List ℕ
 acceptedLine minute f =
     text "minute " ++ decimal minute
     ++ text " rule " ++ decimal (f .rule)
-    ++ masses (f .fed) (f .emitted) (f .destroyed)
+    ++ methane (f .fed) (f .emitted) (f .destroyed)
     ++ text "\n"
 
 -- "`minute E refused R`, E the expected minute"
@@ -43,7 +43,7 @@ unfoldable pub totalLine : Account → List ℕ
 totalLine a =
     text "total " ++ decimal (a .minutes)
     ++ text " gas " ++ decimal (a .gas)
-    ++ masses (a .fed) (a .emitted) (a .destroyed)
+    ++ methane (a .fed) (a .emitted) (a .destroyed)
     ++ text " co2e " ++ decimal (co2e a)
     ++ text "\n"
 

@@ -2,15 +2,17 @@
 mod text;
 
 ghost use mathlib.Core.Path.{_≡_};
+ghost use mathlib.Core.List.{_++_};
 ghost use Prim.Native.Nat.{_+_, _-_, _≤_};
 ghost use lib.ListN.{length};
 ghost use Rattle.account.specs.Kept.{Kept};
-ghost use Rattle.lines.specs.Lines.{masses, acceptedLine, refusedLine, minuteLine, totalLine, standing, yearLine, siteLine};
+ghost use Rattle.lines.specs.Lines.{methane, acceptedLine, refusedLine, minuteLine, totalLine, standing, yearLine, siteLine};
 ghost use Rattle.lines.specs.Places.{placed, placeAfter, Written};
+ghost use Rattle.lines.specs.Text.{text, decimal};
 use account::Account;
 use account::Closed;
 use refusals::Refusal;
-use text::put_field;
+use text::put_decimal;
 use text::put_text;
 use tool06::Figures;
 use tool06::Judged;
@@ -26,33 +28,40 @@ fn room(out: &[u8], at: usize) -> usize
 }
 
 // Methane in mg, of a minute or of a year.
-fn put_masses(out: &mut [u8], at: usize, fed: u64, emitted: u64, destroyed: u64) -> usize
+fn put_methane(out: &mut [u8], at: usize, fed: u64, emitted: u64, destroyed: u64) -> usize
     requires { ⌜ at + 85 ≤ length (now out) ⌝ }
-    ensures { λ r. ⌜ Written (now (out .entry)) at (masses fed emitted destroyed) (now (out .exit)) r ⌝ }
+    ensures { λ r. ⌜ Written (now (out .entry)) at (methane fed emitted destroyed) (now (out .exit)) r ⌝ }
     ensures within { λ r. ⌜ r ≤ at + 85 ⌝ }
 {
-    let a = put_field(out, at, b" fed ", fed);
-    let b = put_field(out, a, b" emitted ", emitted);
-    put_field(out, b, b" destroyed ", destroyed)
+    let at = put_text(out, at, b" fed ");
+    let at = put_decimal(out, at, fed);
+    let at = put_text(out, at, b" emitted ");
+    let at = put_decimal(out, at, emitted);
+    let at = put_text(out, at, b" destroyed ");
+    put_decimal(out, at, destroyed)
 }
 
 fn put_accepted(out: &mut [u8], at: usize, minute: u32, figures: Figures) -> usize
     requires { ⌜ at + 163 ≤ length (now out) ⌝ }
     ensures { λ r. ⌜ Written (now (out .entry)) at (acceptedLine minute figures) (now (out .exit)) r ⌝ }
 {
-    let a = put_field(out, at, b"minute ", minute as u64);
-    let b = put_field(out, a, b" rule ", figures.rule as u64);
-    let c = put_masses(out, b, figures.fed, figures.emitted, figures.destroyed);
-    put_text(out, c, b"\n")
+    let at = put_text(out, at, b"minute ");
+    let at = put_decimal(out, at, minute as u64);
+    let at = put_text(out, at, b" rule ");
+    let at = put_decimal(out, at, figures.rule as u64);
+    let at = put_methane(out, at, figures.fed, figures.emitted, figures.destroyed);
+    put_text(out, at, b"\n")
 }
 
 fn put_refused(out: &mut [u8], at: usize, minute: u32, refusal: Refusal) -> usize
     requires { ⌜ at + 163 ≤ length (now out) ⌝ }
     ensures { λ r. ⌜ Written (now (out .entry)) at (refusedLine minute refusal) (now (out .exit)) r ⌝ }
 {
-    let a = put_field(out, at, b"minute ", minute as u64);
-    let b = put_field(out, a, b" refused ", refusal.number() as u64);
-    put_text(out, b, b"\n")
+    let at = put_text(out, at, b"minute ");
+    let at = put_decimal(out, at, minute as u64);
+    let at = put_text(out, at, b" refused ");
+    let at = put_decimal(out, at, refusal.number() as u64);
+    put_text(out, at, b"\n")
 }
 
 // A minute's line: its figures, or its refusal. Answers the place after the line; without room for any line nothing is put, and that is at.
@@ -69,17 +78,29 @@ pub fn put_minute(out: &mut [u8], at: usize, minute: u32, answer: Judged) -> usi
     }
 }
 
+// Minutes accepted, and of them those with gas.
+fn put_counts(out: &mut [u8], at: usize, minutes: u32, gas: u32) -> usize
+    requires { ⌜ at + 51 ≤ length (now out) ⌝ }
+    ensures { λ r. ⌜ Written (now (out .entry)) at (text "total " ++ decimal minutes ++ text " gas " ++ decimal gas) (now (out .exit)) r ⌝ }
+    ensures within { λ r. ⌜ r ≤ at + 51 ⌝ }
+{
+    let at = put_text(out, at, b"total ");
+    let at = put_decimal(out, at, minutes as u64);
+    let at = put_text(out, at, b" gas ");
+    put_decimal(out, at, gas as u64)
+}
+
 pub fn put_total(out: &mut [u8], at: usize, account: Account) -> usize
     requires { ⌜ Kept account ⌝ }
     ensures { λ r. ⌜ (r ≡ placeAfter (now (out .entry)) at (totalLine account)) × (now (out .exit) ≡ placed (now (out .entry)) at (totalLine account)) ⌝ }
 {
     let co2e = account.co2e();
     if LONGEST <= room(out, at) {
-        let a = put_field(out, at, b"total ", account.minutes as u64);
-        let b = put_field(out, a, b" gas ", account.gas as u64);
-        let c = put_masses(out, b, account.fed, account.emitted, account.destroyed);
-        let d = put_field(out, c, b" co2e ", co2e);
-        put_text(out, d, b"\n")
+        let at = put_counts(out, at, account.minutes, account.gas);
+        let at = put_methane(out, at, account.fed, account.emitted, account.destroyed);
+        let at = put_text(out, at, b" co2e ");
+        let at = put_decimal(out, at, co2e);
+        put_text(out, at, b"\n")
     } else {
         at
     }
@@ -92,7 +113,10 @@ fn put_standing(out: &mut [u8], at: usize, closed: Closed) -> usize
     ensures within { λ r. ⌜ r ≤ at + 28 ⌝ }
 {
     match closed {
-        Closed::Tonnes(tonnes) => put_field(out, at, b" tonnes ", tonnes),
+        Closed::Tonnes(tonnes) => {
+            let at = put_text(out, at, b" tonnes ");
+            put_decimal(out, at, tonnes)
+        }
         Closed::Refused(_) => put_text(out, at, b" open"),
     }
 }
@@ -104,9 +128,10 @@ pub fn put_year(out: &mut [u8], at: usize, account: Account) -> usize
     let site = account.site;
     let closed = account.close();
     if LONGEST <= room(out, at) {
-        let a = put_field(out, at, b"year ", site.year as u64);
-        let b = put_standing(out, a, closed);
-        put_text(out, b, b"\n")
+        let at = put_text(out, at, b"year ");
+        let at = put_decimal(out, at, site.year as u64);
+        let at = put_standing(out, at, closed);
+        put_text(out, at, b"\n")
     } else {
         at
     }
@@ -117,8 +142,9 @@ pub fn put_site(out: &mut [u8], at: usize, refusal: Refusal) -> usize
     ensures { λ r. ⌜ (r ≡ placeAfter (now (out .entry)) at (siteLine refusal)) × (now (out .exit) ≡ placed (now (out .entry)) at (siteLine refusal)) ⌝ }
 {
     if LONGEST <= room(out, at) {
-        let a = put_field(out, at, b"site refused ", refusal.number() as u64);
-        put_text(out, a, b"\n")
+        let at = put_text(out, at, b"site refused ");
+        let at = put_decimal(out, at, refusal.number() as u64);
+        put_text(out, at, b"\n")
     } else {
         at
     }

@@ -1,8 +1,8 @@
 // Text and numbers put into a buffer, each after the other: a call answers the place after what it put.
 ghost use mathlib.Core.Path.{_≡_};
-ghost use mathlib.Core.List.{_++_};
 ghost use Prim.Native.Nat.{_+_, _≤_};
 ghost use lib.ListN.{length};
+ghost use Rattle.exact.specs.Bytes.{put};
 ghost use Rattle.lines.specs.Places.{Written};
 ghost use Rattle.lines.specs.Text.{decimal};
 
@@ -22,12 +22,12 @@ fn places(n: u64) -> usize
     if n < limit { 19 } else { 20 }
 }
 
-// Two digits at a time, from the last: half the divisions of one at a time.
-fn put_decimal(out: &mut [u8], at: usize, n: u64) -> usize
+// The digits of a number of 32 bits, as each minute's are: two at a time, from the last, for half the divisions.
+fn put_short(out: &mut [u8], at: usize, n: u32, count: usize)
     requires { ⌜ at + 20 ≤ length (now out) ⌝ }
-    ensures { λ r. ⌜ Written (now (out .entry)) at (decimal n) (now (out .exit)) r ⌝ }
+    requires { ⌜ count ≡ length (decimal n) ⌝ }
+    ensures { λ _. ⌜ now (out .exit) ≡ put (now (out .entry)) at (decimal n) ⌝ }
 {
-    let count = places(n);
     let mut left = count;
     let mut rest = n;
     while 2 <= left {
@@ -40,7 +40,37 @@ fn put_decimal(out: &mut [u8], at: usize, n: u64) -> usize
     if left == 1 {
         out[at] = 48 + (rest % 10) as u8;
     }
-    at + count
+}
+
+// The digits of any number, as a year's sums have them: one at a time, from the last.
+fn put_long(out: &mut [u8], at: usize, n: u64, count: usize)
+    requires { ⌜ at + 20 ≤ length (now out) ⌝ }
+    requires { ⌜ count ≡ length (decimal n) ⌝ }
+    ensures { λ _. ⌜ now (out .exit) ≡ put (now (out .entry)) at (decimal n) ⌝ }
+{
+    let mut left = count;
+    let mut rest = n;
+    while 1 <= left {
+        left = left - 1;
+        out[at + left] = 48 + (rest % 10) as u8;
+        rest = rest / 10;
+    }
+}
+
+pub(crate) fn put_decimal(out: &mut [u8], at: usize, n: u64) -> usize
+    requires { ⌜ at + 20 ≤ length (now out) ⌝ }
+    ensures { λ r. ⌜ Written (now (out .entry)) at (decimal n) (now (out .exit)) r ⌝ }
+    ensures within { λ r. ⌜ r ≤ at + 20 ⌝ }
+{
+    let count = places(n);
+    let next = at + count;
+    if n < 4_294_967_296 {
+        put_short(out, at, n as u32, count);
+        next
+    } else {
+        put_long(out, at, n, count);
+        next
+    }
 }
 
 pub(crate) fn put_text(out: &mut [u8], at: usize, text: &[u8]) -> usize
@@ -53,14 +83,4 @@ pub(crate) fn put_text(out: &mut [u8], at: usize, text: &[u8]) -> usize
         i = i + 1;
     }
     at + i
-}
-
-// A word, and a number after it.
-pub(crate) fn put_field(out: &mut [u8], at: usize, word: &[u8], n: u64) -> usize
-    requires { ⌜ at + (length (now word) + 20) ≤ length (now out) ⌝ }
-    ensures { λ r. ⌜ Written (now (out .entry)) at (now (word .entry) ++ decimal n) (now (out .exit)) r ⌝ }
-    ensures within { λ r. ⌜ r ≤ at + (length (now (word .entry)) + 20) ⌝ }
-{
-    let a = put_text(out, at, word);
-    put_decimal(out, a, n)
 }

@@ -1,5 +1,5 @@
-use native.Mathlib.Omega.{arith}
 use borrow.Author.Needs.{needs}
+use native.Mathlib.Omega.{arith}
 use Rattle.lines.specs.Lines.{yearLine}
 use Rattle.lines.proofs.Putting.{onward}
 use Rattle.lines.proofs.Placing.{there, nowhere}
@@ -9,11 +9,13 @@ use Rattle.lines.proofs.put_year.Tie as tie
 returns : tie.Need-returns
 unfolding yearLine
 returns c =
-    let end = c .before .before in
-    let stands = end .before .before .before .before .before in
-    let year = stands .before .before .before .before in
-    let closed = rw (year .before .before .before .before .before .before .before .close .ensures) at (stands .put-standing .ensures .0) in
-    there (omega arith) (onward (onward (year .put-field .ensures .0) closed) (end .put-text .ensures))
+    let e = c .before .before in
+    let s = e .before .before .before .before .before in
+    let y = s .before .before .before .before in
+    let w = y .before .before .before .before .before in
+    let r = w .before .before .before .before in
+    let stands = rw (r .before .before .close .ensures) at (s .put-standing .ensures .0) in
+    there (omega (arith, r .room .ensures, w .before .before .before .if1 .taken)) (onward (onward (onward (w .put-text .ensures) (y .put-decimal .ensures .0)) stands) (e .put-text2 .ensures))
 
 returns-2 : tie.Need-returns-2
 returns-2 c = nowhere _ _ _ (omega arith)
@@ -22,6 +24,7 @@ pub put-year-spec : {M : Type 1} → statement M
 put-year-spec =
     tie.close
     (tie.spec
+    (search needs)
     (search needs)
     (search needs)
     (search needs)

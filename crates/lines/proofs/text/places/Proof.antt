@@ -28,7 +28,9 @@ mul-limit c =
     record { fits = omega (arith, pow-le-pow-right {n = 10} (omega arith) {i = l .k} {j = 18} (omega arith)) }
 
 loop-again : tie.Need-loop-again Inv-loop μ-loop
-loop-again c = (omega arith, omega arith, rw (add-one, pow-suc) (omega arith), λ h. omega arith)
+loop-again c =
+    let l = c .before .before .loop in
+    (omega arith, omega arith, rw (add-one, pow-suc) (omega arith), λ h. omega arith)
 
 -- past the loop the limit is 10 ^ 19
 at-end : (k limit : ℕ) → k ≤ 19 → 19 ≤ k → limit ≡ 10 ^ k → limit ≡ 10 ^ 19
