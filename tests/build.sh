@@ -1,0 +1,67 @@
+# Builds the reference and the comparisons. Sourced after machine.sh, with $out set.
+# The reference's own files stand apart, so that tests/broken can link wrong copies of them.
+
+shared_files=(random inputs edges near_whole year program texts)
+reference_files=(reference lines)
+
+# object FOLDER SOURCE compiler...: one object file.
+object() {
+    local folder=$1 source=$2
+    shift 2
+    mkdir -p "$folder"
+    "$@" -O2 -c "$source" -o "$folder/$(basename "$source" .c).o"
+}
+
+# The objects that do not depend on the reference's text; x86-64 only for what is linked with the product.
+build_shared() {
+    local name
+    for name in "${shared_files[@]}" program_inputs whole_years year_file; do
+        object "$out/native" "$root/tests/$name.c" "${c_native[@]}"
+    done
+    for name in random inputs edges near_whole host_calls examples_of_01; do
+        object "$out/x86" "$root/tests/$name.c" "${c_for_x86[@]}"
+    done
+}
+
+# build_reference SOURCES OUT WORDS...: the reference from a folder, for both kinds of machine.
+build_reference() {
+    local sources=$1 to=$2 name
+    shift 2
+    for name in "${reference_files[@]}"; do
+        object "$to/native" "$sources/$name.c" "${c_native[@]}" "$@"
+        object "$to/x86" "$sources/$name.c" "${c_for_x86[@]}" "$@"
+    done
+}
+
+# objects_in FOLDER NAMES...: those object files, in the array `objects`.
+objects_in() {
+    local folder=$1 name
+    shift
+    objects=()
+    for name in "$@"; do objects+=("$folder/$name.o"); done
+}
+
+# link_host OUT, link_program OUT, link_years OUT, link_examples OUT: one comparison with the reference built there.
+link_host() {
+    objects_in "$out/x86" host_calls random inputs edges near_whole
+    "${c_for_x86[@]}" "${objects[@]}" "$1/x86/reference.o" "$host_library" -o "$1/host_calls"
+}
+
+link_examples() {
+    objects_in "$out/x86" examples_of_01 random inputs
+    "${c_for_x86[@]}" "${objects[@]}" "$1"/x86/{reference,lines}.o "$host_library" -o "$1/examples_of_01"
+}
+
+link_native() {
+    objects_in "$out/native" "$2" "${shared_files[@]}"
+    "${c_native[@]}" "${objects[@]}" "$1"/native/{reference,lines}.o -o "$1/$2"
+}
+
+link_program() { link_native "$1" program_inputs; }
+link_years() { link_native "$1" whole_years; }
+
+# The opponent of the bench: x86-64 like the product, with every optimisation.
+build_reference_program() {
+    "${c_for_x86[@]}" -O3 -flto "$root/tests/reference_main.c" "$root/tests/reference.c" "$root/tests/lines.c" \
+        -o "$1"
+}

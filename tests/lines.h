@@ -1,0 +1,26 @@
+/* The lines of the program `flare`, as 01 prints them. */
+#ifndef LINES_H
+#define LINES_H
+
+#include "reference.h"
+
+/* No line, and not total and year together, is longer. */
+enum { LINE_ROOM = 256 };
+
+/* How an input ended: what the comparisons count. */
+struct outcome {
+    uint8_t site_refusal, minute_refusal;
+    int cut, closed;
+    uint32_t counts[RULES];
+};
+
+/* Each writes at `at` and gives the place after it; the record call also says whether it was refused. */
+char *line_site_refused(char *at, uint8_t refusal);
+char *line_of_record(char *at, struct account *account, const uint8_t *bytes, size_t length, uint8_t *refusal);
+char *lines_of_end(char *at, const struct account *account);
+
+/* The whole text for an input that lies in memory; `text` has room for text_room(length). */
+size_t text_room(size_t length);
+size_t text_of_input(const uint8_t *input, size_t length, char *text, struct outcome *outcome);
+
+#endif

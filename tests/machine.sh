@@ -1,0 +1,48 @@
+# How the product's x86-64 program and library are run on this machine. Sourced, with $root set.
+# FLARE_PROGRAM and HOST_LIBRARY may name another program and library than those of target/.
+
+machine=$(uname -m)
+flare_program=${FLARE_PROGRAM:-$root/target/bin/flare}
+host_library=${HOST_LIBRARY:-$root/target/staticlib/libhost.a}
+
+# x86: what stands in front of any x86-64 program; flare: the product's program, which needs its loader too on Arm.
+case $machine in
+x86_64)
+    x86=()
+    flare=("$flare_program")
+    ;;
+aarch64)
+    tools=$(dirname "$(dirname "$(readlink -f "$(command -v rt)")")")/on/$machine/toolchain
+    x86=("$tools/bin/qemu-x86_64")
+    flare=("${x86[@]}" "$tools/lib/ld-linux-x86-64.so.2" --library-path "$tools/lib" "$flare_program")
+    ;;
+*)
+    echo "tests: no way to run x86-64 programs on $machine is known" >&2
+    exit 2
+    ;;
+esac
+
+product_is_there() {
+    local there=0
+    [ -f "$flare_program" ] || { echo "tests: $flare_program is missing: make it with 'rt check flare'" >&2; there=1; }
+    [ -f "$host_library" ] || { echo "tests: $host_library is missing: make it with 'rt staticlib host'" >&2; there=1; }
+    [ -f "$root/include/flare.h" ] || { echo "tests: $root/include/flare.h is missing" >&2; there=1; }
+    return $there
+}
+
+# The cross compiler is there on x86-64 Debian too, under the same name.
+cross=x86_64-linux-gnu-gcc
+compiler_is_there() {
+    if ! command -v "$cross" > /dev/null && [ "$(id -u)" = 0 ]; then
+        echo "tests: installing $cross (apt-get install gcc-x86-64-linux-gnu libc6-dev-amd64-cross)" >&2
+        apt-get install -y gcc-x86-64-linux-gnu libc6-dev-amd64-cross >&2 || true
+    fi
+    command -v "$cross" > /dev/null || {
+        echo "tests: $cross is missing: apt-get install -y gcc-x86-64-linux-gnu libc6-dev-amd64-cross" >&2
+        return 1
+    }
+}
+
+# Static, so that the emulator needs nothing else to run what is linked with the product's library.
+c_for_x86=("$cross" -static -std=gnu11 -Wall -Wextra -I "$root/tests" -I "$root/include")
+c_native=(gcc -std=gnu11 -Wall -Wextra -I "$root/tests")

@@ -1,0 +1,71 @@
+/* The reference: document 01 in C, written apart from the product so that each can find the other wrong. */
+#ifndef REFERENCE_H
+#define REFERENCE_H
+
+#include <stddef.h>
+#include <stdint.h>
+
+enum { SITE_BYTES = 30, MINUTE_BYTES = 54, ANSWER_BYTES = 25, RULES = 10 };
+
+/* 01, "Numbers a caller gets back": the names and numbers of its table. */
+enum refusal {
+    ACCEPTED, LENGTH, VERSION, METHOD, YEAR, GWP, SIZE, SPEC, OPEN, SCHEDULE, LIST, FULL,
+    FLAGS, ORDER, FLOW, COMPOSITION, METHANE, TEMPERATURE, EXHAUST, OXYGEN, INCOMPLETE, DAY, BUFFER,
+    REFUSALS
+};
+
+/* 01, "Records": the eight components, in the order of the minute record. */
+enum component { CH4, CO, CO2, O2, H2, H2S, NH3, N2, COMPONENTS };
+
+enum { DEFAULT_METHOD = 0, MEASURED_METHOD = 1 };
+enum { FLAME_SEEN = 1, TEMPERATURE_PRESENT = 2, EXHAUST_PRESENT = 4 };
+
+struct site {
+    uint8_t method;
+    uint16_t year, gwp;
+    uint32_t height, diameter;
+    int16_t coldest, hottest;
+    uint32_t least_flow, most_flow;
+    uint16_t days;
+};
+
+struct minute {
+    uint32_t number;
+    uint8_t flags;
+    int16_t temperature;
+    uint32_t litres;
+    uint32_t ppm[COMPONENTS];
+    uint32_t exhaust_oxygen, exhaust_methane;
+};
+
+/* 01, "Class of flare". */
+enum flare_class { OPEN_FLARE, LOW_FLARE, TALL_FLARE };
+
+/* What one accepted minute gives, in mg. */
+struct figures {
+    uint8_t rule;
+    uint64_t fed, emitted, destroyed;
+};
+
+/* The account of one year, as the program keeps it: with an empty maintenance list. */
+struct account {
+    struct site site;
+    uint32_t next, gas;
+    uint64_t fed, emitted, destroyed;
+    uint32_t counts[RULES];
+};
+
+uint32_t reference_year_minutes(uint16_t year);
+enum flare_class reference_class(const struct site *site);
+
+/* The single minute: the same call as the product's flare_minute. */
+uint8_t reference_minute(const uint8_t *site, size_t site_len, const uint8_t *minute, size_t minute_len,
+                         uint16_t days, uint8_t *answer, size_t answer_len);
+
+/* The account: each gives ACCEPTED or the refusal, and a refusal changes nothing. */
+uint8_t reference_open(struct account *account, const uint8_t *bytes, size_t length);
+uint8_t reference_add(struct account *account, const uint8_t *bytes, size_t length, struct figures *figures);
+uint8_t reference_close(const struct account *account, uint64_t *tonnes);
+uint64_t reference_co2e(const struct account *account);
+
+#endif

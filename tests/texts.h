@@ -1,0 +1,12 @@
+/* What the program printed against what the reference prints, and how a difference is shown. */
+#ifndef TEXTS_H
+#define TEXTS_H
+
+#include "lines.h"
+#include "program.h"
+
+/* True where they are equal byte for byte; else says so, keeping a long input as a file in folder `keep`. */
+int texts_agree(const char *name, const struct feed *feed, const char *expected, size_t length,
+                const struct answer *answer, const char *keep);
+
+#endif
