@@ -1,5 +1,5 @@
 pub mod Pieces
+pub mod Placed
 pub mod Records
 pub mod Reports
 pub mod Sofar
-pub mod Within

@@ -45,4 +45,4 @@ unfolding siteLine
 site-within r = simp length-append (omega (arith, decimal-within (numberOf r)))
 
 pub none-cut : NoneCut
-none-cut minute answer a r = (minute-within minute answer, total-within a, year-within a, site-within r)
+none-cut = record { minute = minute-within; total = total-within; year = year-within; site = site-within }

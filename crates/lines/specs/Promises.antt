@@ -9,11 +9,12 @@ use Rattle.account.specs.declared.Account.{Account}
 use Rattle.lines.specs.Lines.{minuteLine, totalLine, yearLine, siteLine}
 use Rattle.lines.specs.Text.{decimal}
 
--- a line is put where there is room for 163 bytes, and none is longer
-abbrev pub NoneCut : Type 0
-NoneCut =
-    (minute : ℕ) (answer : Judged) (a : Account) (r : Refusal)
-    → (length (minuteLine minute answer) ≤ 163) × (length (totalLine a) ≤ 163) × (length (yearLine a) ≤ 163) × (length (siteLine r) ≤ 163)
+-- no line is longer than 163 bytes, and each is put only where there is room for that many
+pub record NoneCut : Type 0 where
+  pub minute : (expected : ℕ) (answer : Judged) → length (minuteLine expected answer) ≤ 163
+  pub total : (a : Account) → length (totalLine a) ≤ 163
+  pub year : (a : Account) → length (yearLine a) ≤ 163
+  pub site : (r : Refusal) → length (siteLine r) ≤ 163
 
 -- the number that digits spell after those that spell a
 abbrev pub after : ℕ → List ℕ → ℕ

@@ -1,18 +1,19 @@
-use borrow.Author.Needs.{needs}
 use native.Mathlib.Omega.{arith}
-use Rattle.flare.proofs.Within.{total-within, year-within}
+use borrow.Author.Needs.{needs}
+use lib.ListN.{length-append}
+use Rattle.lines.specs.Lines.{totalLine, yearLine}
+use Rattle.lines.proofs.NoneCut.{none-cut}
 use Rattle.flare.proofs.finish.Statement.{statement}
 use Rattle.flare.proofs.finish.Tie as tie
 
 print-requires : tie.Need-print-requires
 print-requires c κs =
-    let total = c .before .before .before .before .before .before .before .put-total in
-    let year = c .before .before .before .put-year in
-    let a = c .before .before .before .before .before .before .before .before .before .before .args in
-    let first = total-within (a .out .now) 0 (a .account) (omega arith) in
-    let then = year-within (total .last .0) (total .result) (a .account) (omega (arith, total .ensures .0, total .kept .0)) in
-    omega (arith, year .ensures .0, year .kept .0)
+    let put = c .before .before .before .put-ending in
+    let a = c .before .before .before .before .before .before .args .account in
+    omega (arith, put .ensures .0, put .kept .0, length-append (totalLine a) (yearLine a), none-cut .total a, none-cut .year a)
+
+returns : tie.Need-returns
+returns c = c .before .before .before .before .put-ending .ensures .1
 
 pub finish-spec : {M : Type 1} → statement M
-finish-spec =
-    tie.close (tie.spec (search needs) (search needs) print-requires (search needs) (search needs))
+finish-spec = tie.close (tie.spec (search needs) print-requires (search needs) returns)

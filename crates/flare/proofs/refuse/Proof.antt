@@ -1,13 +1,16 @@
-use borrow.Author.Needs.{needs}
 use native.Mathlib.Omega.{arith}
-use Rattle.flare.proofs.Within.{site-within}
+use borrow.Author.Needs.{needs}
+use Rattle.lines.proofs.NoneCut.{none-cut}
 use Rattle.flare.proofs.refuse.Statement.{statement}
 use Rattle.flare.proofs.refuse.Tie as tie
 
 print-requires : tie.Need-print-requires
 print-requires c κs =
-    let put = c .before .before .before .put-site in
-    omega (arith, put .ensures .0, put .kept .0, site-within (c .before .before .before .before .before .before .args .out .now) 0 (c .before .before .before .before .before .before .args .refusal) (omega arith))
+    let put = c .before .before .before .put-refused-site in
+    omega (arith, put .ensures .0, put .kept .0, none-cut .site (c .before .before .before .before .before .before .args .refusal))
+
+returns : tie.Need-returns
+returns c = c .before .before .before .before .put-refused-site .ensures .1
 
 pub refuse-spec : {M : Type 1} → statement M
-refuse-spec = tie.close (tie.spec (search needs) print-requires (search needs) (search needs))
+refuse-spec = tie.close (tie.spec (search needs) print-requires (search needs) returns)
