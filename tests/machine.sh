@@ -5,16 +5,19 @@ machine=$(uname -m)
 flare_program=${FLARE_PROGRAM:-$root/target/bin/flare}
 host_library=${HOST_LIBRARY:-$root/target/staticlib/libhost.a}
 
-# x86: what stands in front of any x86-64 program; flare: the product's program, which needs its loader too on Arm.
+# x86: what stands in front of any x86-64 program; flare: the product's program, which needs its loader too on Arm;
+# cross: the compiler for x86-64.
 case $machine in
 x86_64)
     x86=()
     flare=("$flare_program")
+    cross=gcc
     ;;
 aarch64)
     tools=$(dirname "$(dirname "$(readlink -f "$(command -v rt)")")")/on/$machine/toolchain
     x86=("$tools/bin/qemu-x86_64")
     flare=("${x86[@]}" "$tools/lib/ld-linux-x86-64.so.2" --library-path "$tools/lib" "$flare_program")
+    cross=x86_64-linux-gnu-gcc
     ;;
 *)
     echo "tests: no way to run x86-64 programs on $machine is known" >&2
@@ -30,8 +33,7 @@ product_is_there() {
     return $there
 }
 
-# The cross compiler is there on x86-64 Debian too, under the same name.
-cross=x86_64-linux-gnu-gcc
+# On Arm Debian's cross compiler, which is installed where it is missing.
 compiler_is_there() {
     if ! command -v "$cross" > /dev/null && [ "$(id -u)" = 0 ]; then
         echo "tests: installing $cross (apt-get install gcc-x86-64-linux-gnu libc6-dev-amd64-cross)" >&2
