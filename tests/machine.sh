@@ -35,12 +35,13 @@ product_is_there() {
 
 # On Arm Debian's cross compiler, which is installed where it is missing.
 compiler_is_there() {
+    local packages=(gcc-x86-64-linux-gnu libc6-dev-amd64-cross)
     if ! command -v "$cross" > /dev/null && [ "$(id -u)" = 0 ]; then
-        echo "tests: installing $cross (apt-get install gcc-x86-64-linux-gnu libc6-dev-amd64-cross)" >&2
-        apt-get install -y gcc-x86-64-linux-gnu libc6-dev-amd64-cross >&2 || true
+        echo "tests: installing ${packages[*]}" >&2
+        apt-get install -y "${packages[@]}" >&2 || { apt-get update >&2 && apt-get install -y "${packages[@]}" >&2; } || true
     fi
     command -v "$cross" > /dev/null || {
-        echo "tests: $cross is missing: apt-get install -y gcc-x86-64-linux-gnu libc6-dev-amd64-cross" >&2
+        echo "tests: $cross is missing: apt-get install -y ${packages[*]}" >&2
         return 1
     }
 }
