@@ -1,6 +1,6 @@
 -- What the call comes to: by the table's beginning, which is examined first, and then by what the minute is judged.
 use Prim.Native.Nat.{ℕ}
-use mathlib.Core.Path.{_≡_, refl, sym, ap, ap₂, _∙_}
+use mathlib.Core.Path.{_≡_, refl, sym, ap, _∙_}
 use mathlib.Core.List.{List, _++_}
 use Rattle.refusals.specs.Refusals.{numberOf}
 use Rattle.refusals.specs.Tables.{Line, firstOf, after}
@@ -22,10 +22,6 @@ use Rattle.tool06.specs.declared.figures.Judged.{Judged}
 use Rattle.tool06.specs.declared.figures.Judged.the-variants.{Accepted, Refused}
 use Rattle.tool06.proofs.Ones.{ones, ones-positive}
 use Rattle.host.specs.Single.{answerBytes, sinceInTime, singleLines, single, returned, singleFigures, answered}
-
--- a verdict after another is that of the two tables
-pub followed : (t u : List Line) {v w verdict : Verdict} → v ≡ firstOf t → w ≡ firstOf u → verdict ≡ after v w → verdict ≡ firstOf (t ++ u)
-followed t u e f both = both ∙ ap₂ after e f ∙ sym (joined t u)
 
 -- three tables one after the other, of which the first has the verdict v
 begun : (t u w : List Line) {v : Verdict} → firstOf t ≡ v → firstOf (t ++ u ++ w) ≡ after (after v (firstOf u)) (firstOf w)

@@ -1,6 +1,6 @@
 -- Writing, for any record: the buffer's table and then the fields', and each field put at its place.
 use Prim.Native.Nat.{ℕ, _-_, _/_, _%_}
-use mathlib.Core.Path.{_≡_, sym, ap₂, _∙_}
+use mathlib.Core.Path.{_≡_, _∙_}
 use mathlib.Core.Bool.{true, not}
 use mathlib.Core.List.{List, [], _∷_, _++_}
 use native.Mathlib.Omega.{arith}
@@ -15,7 +15,7 @@ use Rattle.records.specs.House.{houseForm, bufferLines}
 use Rattle.refusals.specs.declared.refusal.Refusal.the-variants.{Buffer}
 use Rattle.refusals.specs.declared.verdict.Verdict.{Verdict}
 use Rattle.refusals.specs.declared.verdict.Verdict.the-variants.{Fine}
-use Rattle.refusals.proofs.Tables.{chained, joined, split, none}
+use Rattle.refusals.proofs.Tables.{chained, followed, split, none}
 
 module _ {S : Type 0} (n version : ℕ) (layout : Layout S) (s : S) where
   pub filled-record : (b : List ℕ) → gapless 3 layout n ≡ true → length b ≡ n
@@ -32,7 +32,7 @@ pub by-buffer : (n : ℕ) (out : List ℕ) (lines : List Line) {buffer fields ve
     → buffer ≡ also Fine (not (eqb (length out) n)) Buffer → fields ≡ firstOf lines → verdict ≡ after buffer fields
     → verdict ≡ firstOf (bufferLines n out ++ lines)
 by-buffer n out lines b f v =
-    v ∙ ap₂ after (b ∙ chained (bufferLines n out)) f ∙ sym (joined (bufferLines n out) lines)
+    followed (bufferLines n out) lines (b ∙ chained (bufferLines n out)) f v
 
 -- a table that is fine had a buffer of the right size
 pub room : (n : ℕ) (out : List ℕ) (lines : List Line) → firstOf (bufferLines n out ++ lines) ≡ Fine → length out ≡ n

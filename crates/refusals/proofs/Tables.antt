@@ -1,5 +1,5 @@
 -- Laws of tables of refusals.
-use mathlib.Core.Path.{_≡_, refl, sym, _∙_}
+use mathlib.Core.Path.{_≡_, refl, sym, ap₂, _∙_}
 use Prim.Native.Nat.{ℕ}
 use mathlib.Core.Bool.{Bool, true, false}
 use mathlib.Core.List.{List, [], _∷_, _++_}
@@ -28,6 +28,10 @@ pub joined : (t u : List Line) → firstOf (t ++ u) ≡ after (firstOf t) (first
 joined [] u = refl
 joined (when true r ∷ t) u = refl
 joined (when false r ∷ t) u = joined t u
+
+-- a verdict after another is that of the two tables
+pub followed : (t u : List Line) {v w verdict : Verdict} → v ≡ firstOf t → w ≡ firstOf u → verdict ≡ after v w → verdict ≡ firstOf (t ++ u)
+followed t u e f both = both ∙ ap₂ after e f ∙ sym (joined t u)
 
 fine-not : {r : Refusal} → Refuse r ≡ Fine → ⊥
 fine-not e = let z : _≡_ {A = ℕ} 0 1 = cc in omega arith

@@ -3,6 +3,7 @@ use mathlib.Core.List.{_++_}
 use denote.Ref.{now}
 use Rattle.refusals.specs.Tables.{firstOf}
 use Rattle.refusals.specs.declared.verdict.Verdict.the-variants.{Fine}
+use Rattle.refusals.proofs.Tables.{followed}
 use Rattle.records.specs.House.{headLines, bufferLines}
 use Rattle.records.proofs.Writing.{by-buffer, room}
 use Rattle.site.specs.Record.{siteOf}
@@ -10,7 +11,7 @@ use Rattle.site.specs.Rules.{siteLines}
 use Rattle.site.specs.declared.Site.{Site}
 use Rattle.tool06.specs.Tool.{Masses, Positive}
 use Rattle.tool06.specs.declared.figures.Judged.the-variants.{Accepted, Refused}
-use Rattle.host.proofs.Outcome.{followed, recordLines, judgedAs, refused-as, judged-as, outcome}
+use Rattle.host.proofs.Outcome.{recordLines, judgedAs, refused-as, judged-as, outcome}
 use borrow.Author.Needs.{needs}
 use Rattle.host.proofs.flare_minute.Statement.{statement}
 use Rattle.host.proofs.flare_minute.Tie as tie
