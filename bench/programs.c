@@ -1,5 +1,5 @@
 /* Times commands on one input, in turn, so that all meet the same machine. */
-/* Usage: programs rounds null|pipe input -- command... [-- command...]; a line each: seconds, CPU seconds, peak KB. */
+/* Usage: programs rounds null|pipe input -- command... [-- command...]; a line each: seconds, peak KB. */
 #define _GNU_SOURCE
 #include <errno.h>
 #include <fcntl.h>
@@ -18,7 +18,7 @@ extern char **environ;
 
 struct best {
     char **command;
-    double seconds, cpu;
+    double seconds;
     long peak;
 };
 
@@ -33,11 +33,6 @@ static double now(void)
     struct timespec time;
     clock_gettime(CLOCK_MONOTONIC, &time);
     return (double)time.tv_sec + (double)time.tv_nsec / 1e9;
-}
-
-static double seconds_of(struct timeval time)
-{
-    return (double)time.tv_sec + (double)time.tv_usec / 1e6;
 }
 
 static pid_t start(char **command, const char *input, int output)
@@ -78,13 +73,12 @@ static void run_once(struct best *best, const char *input, int by_pipe)
     }
     if (wait4(pid, &status, 0, &used) != pid)
         fail("wait4");
-    double seconds = now() - begun, cpu = seconds_of(used.ru_utime) + seconds_of(used.ru_stime);
+    double seconds = now() - begun;
     if (!WIFEXITED(status) || WEXITSTATUS(status) != 0) {
         fprintf(stderr, "%s did not end well\n", best->command[0]);
         exit(1);
     }
     best->seconds = seconds < best->seconds ? seconds : best->seconds;
-    best->cpu = cpu < best->cpu ? cpu : best->cpu;
     best->peak = used.ru_maxrss > best->peak ? used.ru_maxrss : best->peak;
 }
 
@@ -98,7 +92,7 @@ static int commands_of(char **words, struct best *best)
         *words = NULL;
         if (commands == MOST_COMMANDS)
             return 0;
-        best[commands++] = (struct best){.command = words + 1, .seconds = 1e9, .cpu = 1e9};
+        best[commands++] = (struct best){.command = words + 1, .seconds = 1e9};
     }
     return commands;
 }
@@ -114,6 +108,6 @@ int main(int count, char **words)
         for (int i = 0; i < commands; i++)
             run_once(&best[i], words[3], by_pipe);
     for (int i = 0; i < commands; i++)
-        printf("%.4f %.4f %ld\n", best[i].seconds, best[i].cpu, best[i].peak);
+        printf("%.4f %ld\n", best[i].seconds, best[i].peak);
     return 0;
 }

@@ -60,8 +60,9 @@ link_native() {
 link_program() { link_native "$1" program_inputs; }
 link_years() { link_native "$1" whole_years; }
 
-# The opponent of the bench: x86-64 like the product, with every optimisation.
+# build_reference_program OUT WORDS...: the reference as a program, which the bench times; x86-64 like the product.
 build_reference_program() {
-    "${c_for_x86[@]}" -O3 -flto "$root/tests/reference_main.c" "$root/tests/reference.c" "$root/tests/lines.c" \
-        -o "$1"
+    local to=$1
+    shift
+    "${c_for_x86[@]}" -O3 "$@" "$root"/tests/{reference_main,reference,lines}.c -o "$to"
 }
