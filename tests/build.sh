@@ -2,7 +2,7 @@
 # The reference's own files stand apart, so that tests/broken can link wrong copies of them.
 
 shared_files=(random inputs edges near_whole year program texts)
-reference_files=(reference lines)
+reference_files=(reference equations lines)
 
 # object FOLDER SOURCE compiler...: one object file.
 object() {
@@ -44,17 +44,17 @@ objects_in() {
 # link_host OUT, link_program OUT, link_years OUT, link_examples OUT: one comparison with the reference built there.
 link_host() {
     objects_in "$out/x86" host_calls random inputs edges near_whole
-    "${c_for_x86[@]}" "${objects[@]}" "$1/x86/reference.o" "$host_library" -o "$1/host_calls"
+    "${c_for_x86[@]}" "${objects[@]}" "$1"/x86/{reference,equations}.o "$host_library" -o "$1/host_calls"
 }
 
 link_examples() {
     objects_in "$out/x86" examples_of_01 random inputs
-    "${c_for_x86[@]}" "${objects[@]}" "$1"/x86/{reference,lines}.o "$host_library" -o "$1/examples_of_01"
+    "${c_for_x86[@]}" "${objects[@]}" "$1"/x86/{reference,equations,lines}.o "$host_library" -o "$1/examples_of_01"
 }
 
 link_native() {
     objects_in "$out/native" "$2" "${shared_files[@]}"
-    "${c_native[@]}" "${objects[@]}" "$1"/native/{reference,lines}.o -o "$1/$2"
+    "${c_native[@]}" "${objects[@]}" "$1"/native/{reference,equations,lines}.o -o "$1/$2"
 }
 
 link_program() { link_native "$1" program_inputs; }
@@ -64,5 +64,5 @@ link_years() { link_native "$1" whole_years; }
 build_reference_program() {
     local to=$1
     shift
-    "${c_for_x86[@]}" -O3 "$@" "$root"/tests/{reference_main,reference,lines}.c -o "$to"
+    "${c_for_x86[@]}" -O3 "$@" "$root"/tests/{reference_main,reference,equations,lines}.c -o "$to"
 }
