@@ -8,7 +8,7 @@ use Rattle.refusals.specs.declared.refusal.Refusal.{Refusal}
 use Rattle.refusals.specs.declared.verdict.Verdict.{Verdict}
 use Rattle.refusals.specs.declared.verdict.Verdict.the-variants.{Fine, Refuse}
 use Rattle.refusals.proofs.Tables.{joined, split}
-use Rattle.records.specs.House.{headLines, bufferLines, written, answered as by-verdict}
+use Rattle.records.specs.House.{headLines, bufferLines, written, answered}
 use Rattle.site.specs.Record.{siteOf}
 use Rattle.site.specs.Rules.{siteLines}
 use Rattle.site.specs.declared.Site.{Site}
@@ -21,7 +21,7 @@ use Rattle.tool06.specs.declared.figures.Figures.{Figures}
 use Rattle.tool06.specs.declared.figures.Judged.{Judged}
 use Rattle.tool06.specs.declared.figures.Judged.the-variants.{Accepted, Refused}
 use Rattle.tool06.proofs.Ones.{ones, ones-positive}
-use Rattle.host.specs.Single.{answerBytes, sinceInTime, singleLines, single, returned, singleFigures, answered}
+use Rattle.host.specs.Single.{answerBytes, sinceInTime, singleLines, single, returned, singleFigures, answerAfter}
 
 -- three tables one after the other, of which the first has the verdict v
 begun : (t u w : List Line) {v : Verdict} → firstOf t ≡ v → firstOf (t ++ u ++ w) ≡ after (after v (firstOf u)) (firstOf w)
@@ -41,12 +41,12 @@ abbrev pub left : List ℕ → Judged → List ℕ
 left own (Accepted f) = answerBytes f
 left own (Refused r) = own
 
-code-returned : (f : Figures) (v : Verdict) → code (by-verdict Accepted Refused f v) ≡ returned v
+code-returned : (f : Figures) (v : Verdict) → code (answered Accepted Refused f v) ≡ returned v
 unfolding returned
 code-returned f Fine = refl
 code-returned f (Refuse r) = refl
 
-left-written : (own : List ℕ) (f : Figures) (v : Verdict) → left own (by-verdict Accepted Refused f v) ≡ written own (answerBytes f) v
+left-written : (own : List ℕ) (f : Figures) (v : Verdict) → left own (answered Accepted Refused f v) ≡ written own (answerBytes f) v
 left-written own f Fine = refl
 left-written own f (Refuse r) = refl
 
@@ -59,7 +59,7 @@ module _ (site minute : List ℕ) (days : ℕ) (answer : List ℕ) where
 
   -- what the minute is judged by the whole table
   abbrev pub judgedAs : Masses → Judged
-  judgedAs m = by-verdict Accepted Refused (singleFigures m site minute days) (single site minute answer)
+  judgedAs m = answered Accepted Refused (singleFigures m site minute days) (single site minute answer)
 
   by-records : {v : Verdict} → firstOf (recordLines site minute answer) ≡ v
       → single site minute answer ≡ after (after v (firstOf (minuteLines (beyondYear s n) n))) (firstOf (oxygenLines s n))
@@ -67,7 +67,7 @@ module _ (site minute : List ℕ) (days : ℕ) (answer : List ℕ) where
   by-records e = begun (recordLines site minute answer) (minuteLines (beyondYear s n) n) (oxygenLines s n) e
 
   pub refused-as : {r : Refusal} → firstOf (recordLines site minute answer) ≡ Refuse r → (m : Masses) → Refused r ≡ judgedAs m
-  refused-as e m = sym (ap (by-verdict Accepted Refused (singleFigures m site minute days)) (by-records e))
+  refused-as e m = sym (ap (answered Accepted Refused (singleFigures m site minute days)) (by-records e))
 
   -- the site's 3 to 9, examined again, give nothing
   pub judged-as : firstOf (recordLines site minute answer) ≡ Fine → (m : Masses) → judged m (beyondYear s n) s n (sinceInTime s days) ≡ judgedAs m
@@ -75,12 +75,12 @@ module _ (site minute : List ℕ) (days : ℕ) (answer : List ℕ) where
   judged-as e m =
       let head = bufferLines 25 answer ++ headLines 30 1 site in
       let fine = split head (siteLines s) (split (head ++ siteLines s) (headLines 54 1 minute) e .0) .1 in
-      ap (by-verdict Accepted Refused (singleFigures m site minute days))
+      ap (answered Accepted Refused (singleFigures m site minute days))
       (begun (siteLines s) (minuteLines (beyondYear s n) n) (oxygenLines s n) fine ∙ sym (by-records e))
 
   pub outcome : (j : Judged) → ((m : Masses) → Positive m → j ≡ judgedAs m)
-      → (code j ≡ returned (single site minute answer)) × ((m : Masses) → Positive m → left answer j ≡ answered m site minute days answer)
-  unfolding answered
+      → (code j ≡ returned (single site minute answer)) × ((m : Masses) → Positive m → left answer j ≡ answerAfter m site minute days answer)
+  unfolding answerAfter
   outcome j e = (
     ap code (e ones ones-positive) ∙ code-returned (singleFigures ones site minute days) (single site minute answer),
     λ m pos. ap (left answer) (e m pos) ∙ left-written answer (singleFigures m site minute days) (single site minute answer),

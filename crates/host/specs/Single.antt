@@ -58,6 +58,6 @@ unfoldable pub singleFigures : Masses → List ℕ → List ℕ → ℕ → Figu
 singleFigures m site minute days = figures m (siteOf site) (minuteOf minute) (sinceInTime (siteOf site) days)
 
 -- what the answer buffer holds afterwards: the answer, or where the call refuses what it held before
-unfoldable pub answered : Masses → List ℕ → List ℕ → ℕ → List ℕ → List ℕ
-answered m site minute days answer =
+unfoldable pub answerAfter : Masses → List ℕ → List ℕ → ℕ → List ℕ → List ℕ
+answerAfter m site minute days answer =
     written answer (answerBytes (singleFigures m site minute days)) (single site minute answer)

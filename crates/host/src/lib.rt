@@ -4,7 +4,7 @@ ghost use Prim.Native.Nat.{_+_, _≤_};
 ghost use lib.ListN.{length};
 ghost use Rattle.exact.specs.Bytes.{bytesOf, put};
 ghost use Rattle.tool06.specs.Tool.{Masses, Positive};
-ghost use Rattle.host.specs.Single.{sinceInTime, answerBytes, single, returned, answered};
+ghost use Rattle.host.specs.Single.{sinceInTime, answerBytes, single, returned, answerAfter};
 use minute::Minute;
 use refusals::Refusal;
 use refusals::Verdict;
@@ -45,7 +45,7 @@ fn fill(answer: &mut [u8], figures: Figures)
 // 0 and the answer, or the number of the first of the refusals 22, 1 to 9, the minute's 1, 2 and 12 to 19, and the buffer as it was.
 #[no_mangle]
 pub extern "C" fn flare_minute(site: &[u8], minute: &[u8], days: u16, answer: &mut [u8]) -> u8
-    ensures { λ r. ⌜ (r ≡ returned (single (now (site .entry)) (now (minute .entry)) (now (answer .entry)))) × ((m : Masses) → Positive m → now (answer .exit) ≡ answered m (now (site .entry)) (now (minute .entry)) days (now (answer .entry))) ⌝ }
+    ensures { λ r. ⌜ (r ≡ returned (single (now (site .entry)) (now (minute .entry)) (now (answer .entry)))) × ((m : Masses) → Positive m → now (answer .exit) ≡ answerAfter m (now (site .entry)) (now (minute .entry)) days (now (answer .entry))) ⌝ }
 {
     let fields = site::fields_in(site);
     let buffer = Verdict::Fine.also(answer.len() != ANSWER_BYTES, Refusal::Buffer);
