@@ -18,7 +18,7 @@ use tool06::Figures;
 use tool06::Judged;
 
 // No line is longer.
-pub const LONGEST: usize = 163;
+const LONGEST: usize = 163;
 
 // How many bytes there are from a place on.
 fn room(out: &[u8], at: usize) -> usize
