@@ -68,7 +68,7 @@ int main(void)
             continue;
         int count = have_site ? 14 : 10;
         if (!encode(&record, line, have_site ? minute_columns : site_columns, count)) {
-            fprintf(stderr, "records: line %d does not hold the %d numbers of a %s\n", number, count, have_site ? "minute" : "site");
+            fprintf(stderr, "records: line %d: a %s is %d whole numbers with commas between, each fitting its field\n", number, have_site ? "minute" : "site", count);
             return 1;
         }
         fwrite(record.bytes, 1, record.used, stdout);
