@@ -1,5 +1,6 @@
 /* flare_minute against reference_minute: number, answer, and every lent byte. Usage: host_calls [calls] [seed] */
 #include "flare.h"
+#include "hex.h"
 #include "inputs.h"
 
 #include <stdio.h>
@@ -77,14 +78,6 @@ static uint8_t answer_of(minute_call *one, struct call *call)
 {
     return one(call->site.bytes, call->site.length, call->minute.bytes, call->minute.length, call->days,
                call->frame + GUARD, call->answer_length);
-}
-
-static void print_hex(const char *name, const uint8_t *bytes, size_t length)
-{
-    printf("  %s (%zu) ", name, length);
-    for (size_t i = 0; i < length; i++)
-        printf("%02x", bytes[i]);
-    printf("\n");
 }
 
 static void print_answer(const char *name, uint8_t number, const struct call *call)

@@ -1,19 +1,13 @@
 /* A difference is shown so that a reader can repeat it: the input, the first line that differs, its record. */
 #include "texts.h"
 
+#include "hex.h"
+
 #include <stdio.h>
 #include <string.h>
 #include <sys/wait.h>
 
 enum { SHORT_INPUT = 2048 };
-
-static void print_hex(const char *name, const uint8_t *bytes, size_t length)
-{
-    printf("  %s (%zu) ", name, length);
-    for (size_t i = 0; i < length; i++)
-        printf("%02x", bytes[i]);
-    printf("\n");
-}
 
 static void show_input(const char *name, const struct feed *feed, const char *keep)
 {
