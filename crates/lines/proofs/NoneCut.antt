@@ -1,6 +1,9 @@
 -- No line is cut: each is its pieces, and each piece has so many bytes at most.
 use Prim.Native.Nat.{ℕ, _≤_}
+use mathlib.Core.List.{List}
+use native.Mathlib.Decide.{decLe}
 use native.Mathlib.Omega.{arith}
+use borrow.Author.Tests.{le-leb, lt-leb}
 use lib.ListN.{length, length-append}
 use Rattle.refusals.specs.Refusals.{numberOf}
 use Rattle.refusals.specs.declared.refusal.Refusal.{Refusal}
@@ -10,7 +13,7 @@ use Rattle.account.specs.Closing.{co2e, closing}
 use Rattle.account.specs.declared.Account.{Account}
 use Rattle.account.specs.declared.close.Closed.{Closed}
 use Rattle.account.specs.declared.close.Closed.the-variants.{Tonnes, Refused as Missing}
-use Rattle.lines.specs.Lines.{methane, acceptedLine, refusedLine, minuteLine, totalLine, standing, yearLine, siteLine}
+use Rattle.lines.specs.Lines.{methane, acceptedLine, refusedLine, minuteLine, totalLine, standing, yearLine, siteLine, ruleLine}
 use Rattle.lines.specs.Promises.{NoneCut}
 use Rattle.lines.proofs.Decimals.{decimal-within}
 
@@ -44,5 +47,13 @@ site-within : (r : Refusal) → length (siteLine r) ≤ 163
 unfolding siteLine
 site-within r = simp length-append (omega (arith, decimal-within (numberOf r)))
 
+rule-within : (rule minutes : ℕ) (words : List ℕ) → length (ruleLine rule minutes words) ≤ 163
+unfolding ruleLine
+rule-within rule minutes words = by-length (decLe (length words) 80)
+  where
+    by-length : Dec (length words ≤ 80) → length (ruleLine rule minutes words) ≤ 163
+    by-length (yes short) = rw (le-leb (length words) 80 short) (simp length-append (omega (arith, decimal-within rule, decimal-within minutes)))
+    by-length (no long) = rw (lt-leb (length words) 80 (omega arith)) (omega arith)
+
 pub none-cut : NoneCut
-none-cut = record { minute = minute-within; total = total-within; year = year-within; site = site-within }
+none-cut = record { minute = minute-within; total = total-within; year = year-within; site = site-within; rule = rule-within }

@@ -1,6 +1,9 @@
 -- Document 01, "The program `flare`": the lines that it prints.
 use Prim.Native.Nat.{ℕ}
-use mathlib.Core.List.{List, _++_}
+use mathlib.Core.Bool.{cond}
+use mathlib.Core.List.{List, [], _++_}
+use lib.Dec.{leb}
+use lib.ListN.{length}
 use Rattle.refusals.specs.Refusals.{numberOf}
 use Rattle.refusals.specs.declared.refusal.Refusal.{Refusal}
 use Rattle.tool06.specs.declared.figures.Figures.{Figures}
@@ -58,3 +61,13 @@ yearLine a = text "year " ++ decimal (a .site .year) ++ standing (closing a) ++ 
 -- "A refused site prints only `site refused R`"
 unfoldable pub siteLine : Refusal → List ℕ
 siteLine r = text "site refused " ++ decimal (numberOf r) ++ text "\n"
+
+-- the minutes under one rule, in words: "ten counts, one per rule"; with words too long for a line there is none
+unfoldable pub ruleLine : ℕ → ℕ → List ℕ → List ℕ
+ruleLine rule minutes words =
+    cond (leb (length words) 80)
+    (text "rule " ++ decimal rule
+    ++ text " minutes " ++ decimal minutes
+    ++ text " " ++ words
+    ++ text "\n")
+    []

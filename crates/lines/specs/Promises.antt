@@ -6,7 +6,7 @@ use lib.ListN.{length}
 use Rattle.refusals.specs.declared.refusal.Refusal.{Refusal}
 use Rattle.tool06.specs.declared.figures.Judged.{Judged}
 use Rattle.account.specs.declared.Account.{Account}
-use Rattle.lines.specs.Lines.{minuteLine, totalLine, yearLine, siteLine}
+use Rattle.lines.specs.Lines.{minuteLine, totalLine, yearLine, siteLine, ruleLine}
 use Rattle.lines.specs.Text.{decimal}
 
 -- no line is longer than 163 bytes, and each is put only where there is room for that many
@@ -15,6 +15,7 @@ pub record NoneCut : Type 0 where
   pub total : (a : Account) → length (totalLine a) ≤ 163
   pub year : (a : Account) → length (yearLine a) ≤ 163
   pub site : (r : Refusal) → length (siteLine r) ≤ 163
+  pub rule : (rule minutes : ℕ) (words : List ℕ) → length (ruleLine rule minutes words) ≤ 163
 
 -- the number that digits spell after those that spell a
 abbrev pub after : ℕ → List ℕ → ℕ

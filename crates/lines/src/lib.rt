@@ -6,7 +6,7 @@ ghost use mathlib.Core.List.{_++_};
 ghost use Prim.Native.Nat.{_+_, _-_, _≤_};
 ghost use lib.ListN.{length};
 ghost use Rattle.account.specs.Kept.{Kept};
-ghost use Rattle.lines.specs.Lines.{methane, acceptedLine, refusedLine, minuteLine, totalLine, standing, yearLine, siteLine};
+ghost use Rattle.lines.specs.Lines.{methane, acceptedLine, refusedLine, minuteLine, totalLine, standing, yearLine, siteLine, ruleLine};
 ghost use Rattle.lines.specs.Places.{placed, placeAfter, Written};
 ghost use Rattle.lines.specs.Text.{text, decimal};
 use account::Account;
@@ -19,6 +19,8 @@ use tool06::Judged;
 
 // No line is longer.
 const LONGEST: usize = 163;
+
+const WORDS: usize = 80;
 
 // How many bytes there are from a place on.
 fn room(out: &[u8], at: usize) -> usize
@@ -144,6 +146,26 @@ pub fn put_site(out: &mut [u8], at: usize, refusal: Refusal) -> usize
     if LONGEST <= room(out, at) {
         let at = put_text(out, at, b"site refused ");
         let at = put_decimal(out, at, refusal.number() as u64);
+        put_text(out, at, b"\n")
+    } else {
+        at
+    }
+}
+
+// The minutes under one rule, which the words describe; words longer than WORDS are too long for a line.
+pub fn put_rule(out: &mut [u8], at: usize, rule: u8, minutes: u32, words: &[u8]) -> usize
+    ensures { λ r. ⌜ (r ≡ placeAfter (now (out .entry)) at (ruleLine rule minutes (now (words .entry)))) × (now (out .exit) ≡ placed (now (out .entry)) at (ruleLine rule minutes (now (words .entry)))) ⌝ }
+{
+    if WORDS < words.len() {
+        return at;
+    }
+    if LONGEST <= room(out, at) {
+        let at = put_text(out, at, b"rule ");
+        let at = put_decimal(out, at, rule as u64);
+        let at = put_text(out, at, b" minutes ");
+        let at = put_decimal(out, at, minutes as u64);
+        let at = put_text(out, at, b" ");
+        let at = put_text(out, at, words);
         put_text(out, at, b"\n")
     } else {
         at
