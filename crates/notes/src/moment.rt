@@ -1,0 +1,47 @@
+// A minute of a year as a date and a time of day.
+use crate::say;
+
+// The month from 1, and the day of it from 0.
+struct Date {
+    month: u32,
+    day: u32,
+}
+
+fn days_in(month: u32, year: u16) -> u32 {
+    match month {
+        2 => { if year % 4 == 0 { 29 } else { 28 } }
+        4 | 6 | 9 | 11 => 30,
+        _ => 31,
+    }
+}
+
+fn date_of(day: u32, year: u16) -> Date {
+    let mut month: u32 = 1;
+    let mut left = day;
+    while month < 12 {
+        let days = days_in(month, year);
+        if left < days {
+            return Date { month, day: left };
+        }
+        left = left - days;
+        month = month + 1;
+    }
+    Date {
+        month: 12,
+        day: left,
+    }
+}
+
+// As in `minute 100 (2027-01-01 01:40)`; a minute that no year has stands alone.
+pub(crate) fn minute(words: &[u8], minute: u32, year: u16) {
+    say::number(words, minute as u64);
+    if minute < site::Site::LEAP_MINUTES {
+        let date = date_of(minute / 1440, year);
+        say::number(b" (", year as u64);
+        say::pair(b"-", date.month as u64);
+        say::pair(b"-", date.day as u64 + 1);
+        say::pair(b" ", (minute / 60 % 24) as u64);
+        say::pair(b":", (minute % 60) as u64);
+        say::text(b")");
+    }
+}
