@@ -3,8 +3,8 @@ use borrow.Author.Needs.{needs}
 use lib.ListN.{length-append}
 use Rattle.lines.specs.Lines.{totalLine, yearLine}
 use Rattle.lines.proofs.NoneCut.{none-cut}
-use Rattle.flare.proofs.finish.Statement.{statement}
-use Rattle.flare.proofs.finish.Tie as tie
+use Rattle.flare.proofs.outcome.finish.Statement.{statement}
+use Rattle.flare.proofs.outcome.finish.Tie as tie
 
 print-requires : tie.Need-print-requires
 print-requires c κs =

@@ -1,8 +1,8 @@
 use native.Mathlib.Omega.{arith}
 use borrow.Author.Needs.{needs}
 use Rattle.lines.proofs.NoneCut.{none-cut}
-use Rattle.flare.proofs.refuse.Statement.{statement}
-use Rattle.flare.proofs.refuse.Tie as tie
+use Rattle.flare.proofs.outcome.print_refused.Statement.{statement}
+use Rattle.flare.proofs.outcome.print_refused.Tie as tie
 
 print-requires : tie.Need-print-requires
 print-requires c κs =
@@ -12,5 +12,5 @@ print-requires c κs =
 returns : tie.Need-returns
 returns c = c .before .before .before .before .put-refused-site .ensures .1
 
-pub refuse-spec : {M : Type 1} → statement M
-refuse-spec = tie.close (tie.spec (search needs) print-requires (search needs) returns)
+pub print-refused-spec : {M : Type 1} → statement M
+print-refused-spec = tie.close (tie.spec (search needs) print-requires (search needs) returns)

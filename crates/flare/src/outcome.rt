@@ -1,0 +1,82 @@
+// How the program ends: what it prints last, what it says of it, and what its launcher is told.
+ghost use mathlib.Core.Path.{_≡_};
+ghost use lib.ListN.{length};
+ghost use Rattle.exact.specs.Bytes.{put};
+ghost use Rattle.account.specs.Kept.{Kept};
+ghost use Rattle.lines.specs.Lines.{siteLine};
+ghost use Rattle.flare.specs.Report.{ending};
+use crate::ending::put_ending;
+use crate::ending::put_refused_site;
+use crate::streams::print;
+use crate::summary::print_rules;
+use account::Account;
+use refusals::Refusal;
+
+// More: minutes may follow.
+pub(crate) enum Outcome {
+    More,
+    Well,
+    Refused,
+    Failed,
+}
+
+// The launcher listens here, and makes an exit status of what it is told.
+const LAUNCHER: i32 = 3;
+
+fn status(outcome: Outcome) -> u64 {
+    match outcome {
+        Outcome::Well => 0,
+        Outcome::Refused => 1,
+        Outcome::Failed | Outcome::More => 2,
+    }
+}
+
+pub(crate) fn tell(outcome: Outcome) {
+    io::print_decimal(LAUNCHER, status(outcome));
+}
+
+// The total and the year, once every minute's line is printed.
+fn finish(account: Account, out: &mut [u8]) -> bool
+    requires { ⌜ Kept account ⌝ }
+    requires { ⌜ length (now out) ≡ 65536 ⌝ }
+    ensures { λ _. ⌜ now (out .exit) ≡ put (now (out .entry)) 0 (ending account) ⌝ }
+{
+    let used = put_ending(out, account);
+    print(out, used)
+}
+
+// The last lines, before which a summary has the minutes under each rule. Answers whether they could be printed.
+pub(crate) fn end(account: Account, summary: bool, out: &mut [u8]) -> bool
+    requires { ⌜ Kept account ⌝ }
+    requires { ⌜ length (now out) ≡ 65536 ⌝ }
+{
+    let counts = account.counts;
+    if summary {
+        if !print_rules(counts) {
+            notes::unwritten();
+            return false;
+        }
+    }
+    finish(account, out)
+}
+
+// All that is printed of a site that is refused.
+fn print_refused(refusal: Refusal, out: &mut [u8]) -> bool
+    requires { ⌜ length (now out) ≡ 65536 ⌝ }
+    ensures { λ _. ⌜ now (out .exit) ≡ put (now (out .entry)) 0 (siteLine refusal) ⌝ }
+{
+    let used = put_refused_site(out, refusal);
+    print(out, used)
+}
+
+// A site that is refused, and why.
+pub(crate) fn refuse(refusal: Refusal, bytes: &[u8], out: &mut [u8]) -> Outcome
+    requires { ⌜ length (now out) ≡ 65536 ⌝ }
+{
+    if print_refused(refusal, out) {
+        notes::refused_site(refusal, bytes);
+        Outcome::Refused
+    } else {
+        Outcome::Failed
+    }
+}
