@@ -150,6 +150,15 @@ static int is_blank(const char *rest)
     return rest == NULL || rest[strspn(rest, " \t,\"")] == 0;
 }
 
+/* Whether the line is a comment, and not a minute whose first cell is a spreadsheet's error, as #REF! or #N/A. */
+static int is_comment(const char *text)
+{
+    text += strspn(text, " \t\"");
+    size_t length = strcspn(text, " \t\",");
+    int error = length > 1 && (strchr("!?", text[length - 1]) != NULL || (length == 4 && strncmp(text, "#N/A", 4) == 0));
+    return *text == '#' && !error;
+}
+
 /* Takes the next cell from the rest of a line, without the spaces and double quotes around it. A comma in quotes ends no cell. */
 static char *next_cell(char **rest)
 {
@@ -285,7 +294,7 @@ static int convert_all(struct records *records)
             return MISTAKE;
         }
         char *text = line.text + (starts_file(&line, "\xEF\xBB\xBF") ? 3 : 0); /* the byte order mark of UTF-8 */
-        if (is_blank(text) || text[strspn(text, " \t\"")] == '#')
+        if (is_blank(text) || is_comment(text))
             continue;
         split(&line, text);
         line.shape = records->used == 0 ? &site : &minute;
