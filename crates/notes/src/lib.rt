@@ -5,7 +5,6 @@ mod say;
 mod sites;
 mod streams;
 
-pub use minutes::full;
 pub use minutes::refused_minute;
 pub use sites::overdue;
 pub use sites::refused_site;

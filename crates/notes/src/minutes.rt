@@ -1,6 +1,7 @@
 // Why a minute is refused.
 use crate::moment;
 use crate::say;
+use minute::Gas;
 use minute::Minute;
 use refusals::Refusal;
 
@@ -24,9 +25,23 @@ fn out_of_order(came: u32, expected: u32, year: u16) {
     if came < expected {
         say::text(b" came, which is in already: 13 ORDER; is a minute doubled or out of order?\n");
     } else {
-        say::number(b" came: 13 ORDER; ", (came - expected) as u64);
-        say::text(b" minutes before it are missing\n");
+        say::number(
+            b" came: 13 ORDER; minutes missing before it: ",
+            (came - expected) as u64,
+        );
+        say::text(b"\n");
     }
+}
+
+fn sum(gas: Gas) -> u64 {
+    gas.ch4 as u64
+        + gas.co as u64
+        + gas.co2 as u64
+        + gas.o2 as u64
+        + gas.h2 as u64
+        + gas.h2s as u64
+        + gas.nh3 as u64
+        + gas.n2 as u64
 }
 
 fn wrong_gas(refusal: Refusal, minute: Minute) {
@@ -36,9 +51,10 @@ fn wrong_gas(refusal: Refusal, minute: Minute) {
             say::number(b"14 FLOW: ", minute.litres as u64);
             say::text(b" litres; at most 100000");
         }
-        Refusal::Composition => say::text(
-            b"15 COMPOSITION: the eight fractions must add up to 1000000 ppm",
-        ),
+        Refusal::Composition => {
+            say::number(b"15 COMPOSITION: the eight fractions add up to ", sum(gas));
+            say::text(b" ppm, not to 1000000");
+        }
         Refusal::Methane => {
             say::number(b"16 METHANE: CH4 is ", gas.ch4 as u64);
             say::text(b" ppm; not 0, and not below CO, H2, H2S or NH3");
@@ -71,13 +87,15 @@ fn wrong_reading(refusal: Refusal, minute: Minute) {
 }
 
 // The input went on after the year's last minute.
-pub fn full(year: u16, minutes: u32) {
+fn full(year: u16, minutes: u32) {
     say::number(
         b"flare: the input goes on after the last minute of ",
         year as u64,
     );
-    say::text(b": 11 FULL; is the site's year the minutes' year? The total is that of the first ");
-    say::number(b"", minutes as u64);
+    say::number(
+        b": 11 FULL; is the site's year the minutes' year? The total is that of the first ",
+        minutes as u64,
+    );
     say::text(b" minutes alone\n");
 }
 
@@ -90,12 +108,12 @@ pub fn refused_minute(refusal: Refusal, record: &[u8], expected: u32, year: u16)
         Refusal::Order => out_of_order(minute.number, expected, year),
         _ => {
             moment::minute(b"flare: minute ", expected, year);
-            moment::minute(
-                b" was expected, and the record says minute ",
-                minute.number,
-                year,
-            );
-            say::text(b": ");
+            if minute.number == expected {
+                say::text(b" is refused, ");
+            } else {
+                moment::minute(b" was expected, and minute ", minute.number, year);
+                say::text(b" came, which is refused, ");
+            }
             wrong_reading(refusal, minute);
             say::text(b"\n");
         }

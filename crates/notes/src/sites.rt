@@ -45,10 +45,10 @@ pub fn understood(site: Site) {
 
 // What a measured flare's total is worth without maintenance days.
 pub fn overdue(minutes: u32) {
-    say::text(
+    say::number(
         b"flare: THIS TOTAL IS NOT THE SITE'S. A measured flare was judged without maintenance days, so ",
+        minutes as u64,
     );
-    say::number(b"", minutes as u64);
     say::text(
         b" minutes count as overdue (rule 7); examples/host.c takes the days, and README.md says how (A measured flare)\n",
     );
@@ -63,7 +63,7 @@ fn begins_text(first: u8) -> bool {
 }
 
 fn no_site(bytes: &[u8]) {
-    say::text(b"flare: 1 LENGTH: ");
+    say::text(b"flare: the site is refused, 1 LENGTH: ");
     if bytes.len() == 0 {
         say::text(b"the input is empty");
     } else if begins_text(records::byte_at(bytes, 0)) {
