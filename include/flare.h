@@ -24,7 +24,8 @@ extern "C" {
  *
  * site, site_len      the site record; any bytes of any length may be given
  * minute, minute_len  the minute record; the same
- * days                days since maintenance, or FLARE_NEVER_MAINTAINED; it matters only to the measured method
+ * days                days from the last maintenance to the day of this minute, so that it grows from day to day, or
+ *                     FLARE_NEVER_MAINTAINED; it matters only to the measured method
  * answer, answer_len  25 bytes that the call may write to
  *
  * Returns 0, and then the answer holds, big-endian:
