@@ -6,6 +6,7 @@
 #include <stdint.h>
 
 enum { SITE_BYTES = 30, MINUTE_BYTES = 54, ANSWER_BYTES = 25, RULES = 10 };
+enum { DAY_MINUTES = 1440, MOST_DAYS = 64 };
 
 /* 01, "Numbers a caller gets back": the names and numbers of its table. */
 enum refusal {
@@ -47,9 +48,11 @@ struct figures {
     uint64_t fed, emitted, destroyed;
 };
 
-/* The account of one year, as the program keeps it: with an empty maintenance list. */
+/* The account of one year, with its maintenance list. */
 struct account {
     struct site site;
+    int32_t list[MOST_DAYS];
+    size_t listed;
     uint32_t next, gas;
     uint64_t fed, emitted, destroyed;
     uint32_t counts[RULES];
@@ -62,8 +65,8 @@ enum flare_class reference_class(const struct site *site);
 uint8_t reference_minute(const uint8_t *site, size_t site_len, const uint8_t *minute, size_t minute_len,
                          uint16_t days, uint8_t *answer, size_t answer_len);
 
-/* The account: each gives ACCEPTED or the refusal, and a refusal changes nothing. */
-uint8_t reference_open(struct account *account, const uint8_t *bytes, size_t length);
+/* The account: each gives ACCEPTED or the refusal, and a refusal changes nothing. The list's days may be NULL for 0. */
+uint8_t reference_open(struct account *account, const uint8_t *bytes, size_t length, const int32_t *days, size_t count);
 uint8_t reference_add(struct account *account, const uint8_t *bytes, size_t length, struct figures *figures);
 uint8_t reference_close(const struct account *account, uint64_t *tonnes);
 uint64_t reference_co2e(const struct account *account);
