@@ -34,7 +34,7 @@ static void fail(const char *what)
     exit(2);
 }
 
-static pid_t start(char **command, int *in, int *out)
+static pid_t start(char **command, const char *errors, int *in, int *out)
 {
     int to[2], from[2];
     pid_t pid;
@@ -47,6 +47,8 @@ static pid_t start(char **command, int *in, int *out)
     posix_spawn_file_actions_init(&files);
     posix_spawn_file_actions_adddup2(&files, to[0], 0);
     posix_spawn_file_actions_adddup2(&files, from[1], 1);
+    if (errors != NULL)
+        posix_spawn_file_actions_addopen(&files, 2, errors, O_WRONLY | O_CREAT | O_TRUNC, 0666);
     posix_spawnattr_init(&attributes); /* the program gets SIGPIPE as a shell would give it */
     sigemptyset(&signals);
     sigaddset(&signals, SIGPIPE);
@@ -159,7 +161,7 @@ void run_program(char **command, const struct feed *feed, struct answer *answer)
     time_t begun = time(NULL);
     signal(SIGPIPE, SIG_IGN);
     memset(answer, 0, sizeof *answer);
-    pid_t pid = start(command, &talk.in, &talk.out);
+    pid_t pid = start(command, feed->errors, &talk.in, &talk.out);
     while (talk.out >= 0) {
         talk_once(&talk);
         if (!answer->late && time(NULL) - begun > LIMIT_SECONDS) {

@@ -10,6 +10,7 @@ struct feed {
     size_t length;
     uint32_t largest, wait; /* wait 0: never */
     struct random *random;
+    const char *errors; /* the file for its standard error; NULL: the driver's own */
 };
 
 struct answer {

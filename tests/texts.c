@@ -9,7 +9,7 @@
 
 enum { SHORT_INPUT = 2048 };
 
-static void show_input(const char *name, const struct feed *feed, const char *keep)
+void show_input(const char *name, const struct feed *feed, const char *keep)
 {
     char place[512];
     if (feed->length <= SHORT_INPUT) {

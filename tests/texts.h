@@ -9,4 +9,7 @@
 int texts_agree(const char *name, const struct feed *feed, const char *expected, size_t length,
                 const struct answer *answer, const char *keep);
 
+/* The input in hex, or the name of the file that it is kept as. */
+void show_input(const char *name, const struct feed *feed, const char *keep);
+
 #endif

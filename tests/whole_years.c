@@ -87,7 +87,7 @@ int main(int words_count, char **words)
         return fprintf(stderr, "usage: whole_years keep-folder -- command...\n"), 2;
     static struct tally tally;
 
-    for (enum year_kind kind = 0; kind < YEAR_KINDS; kind++)
+    for (enum year_kind kind = 0; kind <= OPEN_DEFAULT; kind++)
         for (uint16_t year = 2027; year <= 2028 && tally.differences == 0; year++)
             one_year(command, words[1], kind, year, &tally);
     if (tally.differences > 0)

@@ -5,12 +5,13 @@
 #include <stdlib.h>
 #include <string.h>
 
-const char *const year_names[YEAR_KINDS] = {"tall-default", "low-measured", "open-default"};
+const char *const year_names[YEAR_KINDS] = {"tall-default", "low-measured", "open-default", "tall-measured"};
 
 struct site year_site(enum year_kind kind, uint16_t year)
 {
-    static const uint32_t heights[] = {12000, 9000, 2000};
-    return (struct site){.method = kind == LOW_MEASURED, .year = year, .gwp = 28, .height = heights[kind], .diameter = 1000,
+    static const uint32_t heights[] = {12000, 9000, 2000, 12000};
+    uint8_t method = kind == LOW_MEASURED || kind == TALL_MEASURED;
+    return (struct site){.method = method, .year = year, .gwp = 28, .height = heights[kind], .diameter = 1000,
                          .coldest = 5000, .hottest = 12000, .least_flow = 100, .most_flow = 50000, .days = 365};
 }
 

@@ -4,8 +4,8 @@
 
 #include "inputs.h"
 
-/* The three sites; between them a program that knows no maintenance can meet every rule but 8 and 9. */
-enum year_kind { TALL_DEFAULT, LOW_MEASURED, OPEN_DEFAULT, YEAR_KINDS };
+/* The sites; without maintenance days the first three meet all that the four can, which is every rule but 8 and 9. */
+enum year_kind { TALL_DEFAULT, LOW_MEASURED, OPEN_DEFAULT, TALL_MEASURED, YEAR_KINDS };
 extern const char *const year_names[YEAR_KINDS];
 
 struct site year_site(enum year_kind kind, uint16_t year);

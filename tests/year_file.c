@@ -9,7 +9,7 @@ int main(int count, char **words)
 {
     size_t length;
     if (count != 4)
-        return fprintf(stderr, "usage: year_file tall-default|low-measured|open-default year minutes\n"), 2;
+        return fprintf(stderr, "usage: year_file tall-default|low-measured|open-default|tall-measured year minutes\n"), 2;
     for (enum year_kind kind = 0; kind < YEAR_KINDS; kind++) {
         if (strcmp(words[1], year_names[kind]) != 0)
             continue;
