@@ -66,3 +66,34 @@ build_reference_program() {
     shift
     "${c_for_x86[@]}" -O3 "$@" "$root"/tests/{reference_main,reference,equations,lines}.c -o "$to"
 }
+
+# build_hosts: the examples host.c and host.rs. rustc comes without an x86-64 target on Arm, so there host.rs is linked with
+# the reference in the library's place: that tries its own part of the work, though not the library.
+build_hosts() {
+    local library
+    rm -rf "$out/hosts"
+    mkdir -p "$out/hosts"
+    "${c_for_x86[@]}" -O2 "$root/examples/host.c" "$host_library" -o "$out/hosts/c"
+    if ! command -v rustc > /dev/null; then
+        echo "  host.rs is left out: there is no rustc here"
+        return
+    fi
+    library=$(dirname "$host_library")
+    if [ "$machine" != x86_64 ]; then
+        echo "  host.rs is linked with the reference here, in place of the library, which is for x86-64"
+        library=$out/hosts/library
+        object "$library" "$root/tests/reference_library.c" "${c_native[@]}" -I "$root/include"
+        ar rcs "$library/libhost.a" "$library/reference_library.o" "$out"/native/{reference,equations}.o
+    fi
+    rustc --edition 2021 -O -L "$library" "$root/examples/host.rs" -o "$out/hosts/rs"
+}
+
+# host_programs: what runs them, in the arrays `host_c`, `host_rs` (empty where it was left out), and both in `hosts`.
+host_programs() {
+    host_c=("${x86[@]}" "$out/hosts/c")
+    host_rs=()
+    hosts=("${host_c[@]}")
+    [ -x "$out/hosts/rs" ] || return 0
+    host_rs=("$out/hosts/rs")
+    hosts+=(-- "${host_rs[@]}")
+}
