@@ -15,7 +15,7 @@ object() {
 # The objects that do not depend on the reference's text; x86-64 only for what is linked with the product.
 build_shared() {
     local name
-    for name in "${shared_files[@]}" program_inputs whole_years year_file; do
+    for name in "${shared_files[@]}" host_run program_inputs whole_years host_lists host_years year_file; do
         object "$out/native" "$root/tests/$name.c" "${c_native[@]}"
     done
     for name in random inputs edges near_whole host_calls examples_of_01; do
@@ -41,7 +41,7 @@ objects_in() {
     for name in "$@"; do objects+=("$folder/$name.o"); done
 }
 
-# link_host OUT, link_program OUT, link_years OUT, link_examples OUT: one comparison with the reference built there.
+# link_host OUT, link_program OUT and their like: one comparison with the reference built there.
 link_host() {
     objects_in "$out/x86" host_calls random inputs edges near_whole
     "${c_for_x86[@]}" "${objects[@]}" "$1"/x86/{reference,equations}.o "$host_library" -o "$1/host_calls"
@@ -52,13 +52,18 @@ link_examples() {
     "${c_for_x86[@]}" "${objects[@]}" "$1"/x86/{reference,equations,lines}.o "$host_library" -o "$1/examples_of_01"
 }
 
+# link_native OUT NAME OBJECTS...: the driver NAME, with these objects beside the shared ones.
 link_native() {
-    objects_in "$out/native" "$2" "${shared_files[@]}"
-    "${c_native[@]}" "${objects[@]}" "$1"/native/{reference,equations,lines}.o -o "$1/$2"
+    local to=$1 name=$2
+    shift
+    objects_in "$out/native" "$@" "${shared_files[@]}"
+    "${c_native[@]}" "${objects[@]}" "$to"/native/{reference,equations,lines}.o -o "$to/$name"
 }
 
 link_program() { link_native "$1" program_inputs; }
 link_years() { link_native "$1" whole_years; }
+link_host_lists() { link_native "$1" host_lists host_run; }
+link_host_years() { link_native "$1" host_years host_run; }
 
 # build_reference_program OUT WORDS...: the reference as a program, which the bench times; x86-64 like the product.
 build_reference_program() {
