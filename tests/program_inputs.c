@@ -105,7 +105,7 @@ static void make_input(struct random *random, uint64_t input, struct stream *str
 static struct feed make_feed(struct random *random, const struct stream *stream)
 {
     static const uint32_t waits[] = {0, 1, 1, 3, 10};
-    struct feed feed = {.input = stream->bytes, .length = stream->length, .random = random};
+    struct feed feed = {.input = stream->bytes, .length = stream->length, .random = random, .errors = "/dev/null"};
     uint32_t least = (uint32_t)(stream->length / 250) + 1;
     feed.largest = 1u << random_below(random, 17);
     if (feed.largest < least)

@@ -72,7 +72,8 @@ static void one_year(char **command, const char *keep, enum year_kind kind, uint
     snprintf(name, sizeof name, "%s-%u", year_names[kind], year);
     for (size_t i = 0; i < sizeof endings / sizeof endings[0]; i++) {
         size_t whole = length - MINUTE_BYTES;
-        struct feed feed = {.input = input, .length = (size_t)((int64_t)whole + endings[i].bytes_more), .random = &pieces};
+        struct feed feed = {.input = input, .length = (size_t)((int64_t)whole + endings[i].bytes_more), .random = &pieces,
+                            .errors = "/dev/null"};
         feed.largest = i % 2 == 0 ? 65536 : 1000000;
         feed.wait = i % 2 == 0 ? 20 : 0;
         one_run(command, keep, name, &endings[i], &feed, tally);
