@@ -7,7 +7,7 @@
 #include <stdlib.h>
 #include <time.h>
 
-enum { DAY_MINUTES = 1440, DAYS_A_ROUND = 200 };
+enum { DAYS_A_ROUND = 200 };
 
 typedef uint8_t minute_call(const uint8_t *, size_t, const uint8_t *, size_t, uint16_t, uint8_t *, size_t);
 
