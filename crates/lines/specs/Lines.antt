@@ -62,7 +62,7 @@ yearLine a = text "year " ++ decimal (a .site .year) ++ standing (closing a) ++ 
 unfoldable pub siteLine : Refusal → List ℕ
 siteLine r = text "site refused " ++ decimal (numberOf r) ++ text "\n"
 
--- the minutes under one rule, in words: "ten counts, one per rule"; with words too long for a line there is none
+-- the minutes under one rule, in words: "ten counts, one per rule"; words have at most 80 bytes, and with longer ones there is no line
 unfoldable pub ruleLine : ℕ → ℕ → List ℕ → List ℕ
 ruleLine rule minutes words =
     cond (leb (length words) 80)

@@ -20,6 +20,7 @@ use tool06::Judged;
 // No line is longer.
 const LONGEST: usize = 163;
 
+// A rule's words are no longer, so that its line is not either.
 const WORDS: usize = 80;
 
 // How many bytes there are from a place on.
@@ -152,7 +153,7 @@ pub fn put_site(out: &mut [u8], at: usize, refusal: Refusal) -> usize
     }
 }
 
-// The minutes under one rule, which the words describe; words longer than WORDS are too long for a line.
+// The minutes under one rule, which the words describe; there is no line with longer words than WORDS.
 pub fn put_rule(out: &mut [u8], at: usize, rule: u8, minutes: u32, words: &[u8]) -> usize
     ensures { λ r. ⌜ (r ≡ placeAfter (now (out .entry)) at (ruleLine rule minutes (now (words .entry)))) × (now (out .exit) ≡ placed (now (out .entry)) at (ruleLine rule minutes (now (words .entry)))) ⌝ }
 {

@@ -1,29 +1,55 @@
 // Why a minute is refused.
 use crate::moment;
 use crate::say;
-use minute::Gas;
 use minute::Minute;
 use refusals::Refusal;
+use site::Site;
 
-// Where the record is no record of a minute.
-fn no_minute(record: &[u8], expected: u32, year: u16) {
-    if record.len() < Minute::BYTES {
-        say::number(b"flare: the input ends ", record.len() as u64);
-        moment::minute(b" bytes into a record, where minute ", expected, year);
-        say::text(b" was expected: 1 LENGTH; was the file copied whole?\n");
-    } else {
-        moment::minute(b"flare: where minute ", expected, year);
-        say::text(
-            b" was expected stands no minute record, which begins with 00 34 01: 1 LENGTH; was something put in or left out before it?\n",
-        );
+// Where the fields stand that are told. Minute's own reading is left to the program's loop, which is faster as its only caller.
+const NUMBER: u8 = 3;
+
+const FLAGS: usize = 7;
+
+const TEMPERATURE: u16 = 8;
+
+const LITRES: u8 = 10;
+
+const CH4: u8 = 14;
+
+const OXYGEN: u8 = 46;
+
+const METHANE: u8 = 50;
+
+// Where the record is no minute record of this version.
+fn no_minute(refusal: Refusal, record: &[u8], expected: u32, site: Site) {
+    moment::minute(b"flare: where minute ", expected, site);
+    match refusal {
+        Refusal::Version => say::text(
+            b" was expected stands a record of another version: 2 VERSION; export the records in version 1\n",
+        ),
+        _ => {
+            if record.len() < Minute::BYTES {
+                say::number(
+                    b" was expected the input ends within a record, bytes of it: ",
+                    record.len() as u64,
+                );
+                say::text(b": 1 LENGTH; was the file copied whole?\n");
+            } else {
+                say::text(
+                    b" was expected stands no minute record, which begins with 00 34 01: 1 LENGTH; was something put in or left out before it?\n",
+                );
+            }
+        }
     }
 }
 
-fn out_of_order(came: u32, expected: u32, year: u16) {
-    moment::minute(b"flare: minute ", expected, year);
-    moment::minute(b" was expected, and minute ", came, year);
+fn out_of_order(came: u32, expected: u32, site: Site) {
+    moment::minute(b"flare: minute ", expected, site);
+    moment::minute(b" was expected, and minute ", came, site);
     if came < expected {
         say::text(b" came, which is in already: 13 ORDER; is a minute doubled or out of order?\n");
+    } else if site.minutes() <= came {
+        say::text(b" came, which the year does not have: 13 ORDER; are minutes counted from 0?\n");
     } else {
         say::number(
             b" came: 13 ORDER; minutes missing before it: ",
@@ -33,88 +59,97 @@ fn out_of_order(came: u32, expected: u32, year: u16) {
     }
 }
 
-fn sum(gas: Gas) -> u64 {
-    gas.ch4 as u64
-        + gas.co as u64
-        + gas.co2 as u64
-        + gas.o2 as u64
-        + gas.h2 as u64
-        + gas.h2s as u64
-        + gas.nh3 as u64
-        + gas.n2 as u64
+fn sum_of_fractions(record: &[u8]) -> u64 {
+    records::u32_at(record, CH4) as u64
+        + records::u32_at(record, CH4 + 4) as u64
+        + records::u32_at(record, CH4 + 8) as u64
+        + records::u32_at(record, CH4 + 12) as u64
+        + records::u32_at(record, CH4 + 16) as u64
+        + records::u32_at(record, CH4 + 20) as u64
+        + records::u32_at(record, CH4 + 24) as u64
+        + records::u32_at(record, CH4 + 28) as u64
 }
 
-fn wrong_gas(refusal: Refusal, minute: Minute) {
-    let gas = minute.gas;
+fn wrong_gas(refusal: Refusal, record: &[u8]) {
     match refusal {
         Refusal::Flow => {
-            say::number(b"14 FLOW: ", minute.litres as u64);
-            say::text(b" litres; at most 100000");
+            say::number(b"14 FLOW: ", records::u32_at(record, LITRES) as u64);
+            say::text(b" litres; they must be at most 100000");
         }
         Refusal::Composition => {
-            say::number(b"15 COMPOSITION: the eight fractions add up to ", sum(gas));
+            say::number(
+                b"15 COMPOSITION: the eight fractions add up to ",
+                sum_of_fractions(record),
+            );
             say::text(b" ppm, not to 1000000");
         }
         Refusal::Methane => {
-            say::number(b"16 METHANE: CH4 is ", gas.ch4 as u64);
-            say::text(b" ppm; not 0, and not below CO, H2, H2S or NH3");
+            say::number(b"16 METHANE: CH4 is ", records::u32_at(record, CH4) as u64);
+            say::text(b" ppm; it must not be 0, nor below CO, H2, H2S or NH3");
         }
         _ => say::text(b"19 OXYGEN: more oxygen in the gas than the equations can take"),
     }
 }
 
-fn wrong_reading(refusal: Refusal, minute: Minute) {
-    let exhaust = minute.exhaust;
+fn wrong_reading(refusal: Refusal, record: &[u8]) {
     match refusal {
-        Refusal::Version => say::text(b"2 VERSION: the third byte of the record is not 1"),
         Refusal::Flags => {
-            say::number(b"12 FLAGS: ", minute.flags as u64);
+            say::number(b"12 FLAGS: ", records::byte_at(record, FLAGS) as u64);
             say::text(
-                b"; the sum of 1 flame seen, 2 temperature present, 4 exhaust readings present",
+                b"; they must be the sum of 1 flame seen, 2 temperature present, 4 exhaust readings present",
             );
         }
         Refusal::Temperature => {
-            say::degrees(b"17 TEMPERATURE: ", minute.temperature);
-            say::text(b" degrees; -50.0 to 1500.0, and 0 where its flag is off");
+            let temperature = records::signed(records::u16_at(record, TEMPERATURE));
+            say::degrees(b"17 TEMPERATURE: ", temperature);
+            say::text(b" degrees; it must be -50.0 to 1500.0, and 0 where its flag is off");
         }
         Refusal::Exhaust => {
-            say::number(b"18 EXHAUST: oxygen ", exhaust.oxygen as u64);
-            say::number(b" ppm, methane ", exhaust.methane as u64);
-            say::text(b" mg/m3; up to 209999 and 50000, and 0 where their flag is off");
+            say::number(
+                b"18 EXHAUST: oxygen ",
+                records::u32_at(record, OXYGEN) as u64,
+            );
+            say::number(b" ppm, methane ", records::u32_at(record, METHANE) as u64);
+            say::text(
+                b" mg/m3; they must be at most 209999 and 50000, and 0 where their flag is off",
+            );
         }
-        _ => wrong_gas(refusal, minute),
+        _ => wrong_gas(refusal, record),
     }
 }
 
 // The input went on after the year's last minute.
-fn full(year: u16, minutes: u32) {
+fn full(record: &[u8], minutes: u32, site: Site) {
     say::number(
         b"flare: the input goes on after the last minute of ",
-        year as u64,
+        site.year as u64,
     );
-    say::number(
-        b": 11 FULL; is the site's year the minutes' year? The total is that of the first ",
-        minutes as u64,
-    );
+    if record.len() < Minute::BYTES {
+        say::number(b" by a part of a record, bytes: ", record.len() as u64);
+        say::text(b": 11 FULL; was something put behind the year?");
+    } else {
+        say::text(b": 11 FULL; is the site's year the minutes' year?");
+    }
+    say::number(b" The total is that of the first ", minutes as u64);
     say::text(b" minutes alone\n");
 }
 
-// Why the record that came where a minute was expected is refused.
-pub fn refused_minute(refusal: Refusal, record: &[u8], expected: u32, year: u16) {
-    let minute = minute::fields_in(record);
+// Why the record is refused with which these bytes begin, where a minute was expected.
+pub fn refused_minute(refusal: Refusal, record: &[u8], expected: u32, site: Site) {
+    let came = records::u32_at(record, NUMBER);
     match refusal {
-        Refusal::Length => no_minute(record, expected, year),
-        Refusal::Full => full(year, expected),
-        Refusal::Order => out_of_order(minute.number, expected, year),
+        Refusal::Length | Refusal::Version => no_minute(refusal, record, expected, site),
+        Refusal::Full => full(record, expected, site),
+        Refusal::Order => out_of_order(came, expected, site),
         _ => {
-            moment::minute(b"flare: minute ", expected, year);
-            if minute.number == expected {
+            moment::minute(b"flare: minute ", expected, site);
+            if came == expected {
                 say::text(b" is refused, ");
             } else {
-                moment::minute(b" was expected, and minute ", minute.number, year);
+                moment::minute(b" was expected, and minute ", came, site);
                 say::text(b" came, which is refused, ");
             }
-            wrong_reading(refusal, minute);
+            wrong_reading(refusal, record);
             say::text(b"\n");
         }
     }

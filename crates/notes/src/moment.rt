@@ -1,5 +1,6 @@
 // A minute of a year as a date and a time of day.
 use crate::say;
+use site::Site;
 
 // The month from 1, and the day of it from 0.
 struct Date {
@@ -32,12 +33,12 @@ fn date_of(day: u32, year: u16) -> Date {
     }
 }
 
-// As in `minute 100 (2027-01-01 01:40)`; a minute that no year has stands alone.
-pub(crate) fn minute(words: &[u8], minute: u32, year: u16) {
+// As in `minute 100 (2027-01-01 01:40)`; a minute that the site's year does not have is only a number.
+pub(crate) fn minute(words: &[u8], minute: u32, site: Site) {
     say::number(words, minute as u64);
-    if minute < site::Site::LEAP_MINUTES {
-        let date = date_of(minute / 1440, year);
-        say::number(b" (", year as u64);
+    if minute < site.minutes() {
+        let date = date_of(minute / Site::DAY_MINUTES, site.year);
+        say::number(b" (", site.year as u64);
         say::pair(b"-", date.month as u64);
         say::pair(b"-", date.day as u64 + 1);
         say::pair(b" ", (minute / 60 % 24) as u64);

@@ -20,10 +20,13 @@ fn method(site: Site) {
     if site.method == Site::DEFAULT {
         say::text(b"default method");
     } else if site.method == Site::MEASURED {
-        say::number(b"measured each minute, ", site.days as u64);
-        say::text(b" days between maintenance");
+        say::text(b"measured each minute");
     } else {
         say::number(b"method ", site.method as u64);
+    }
+    if 0 < site.days {
+        say::number(b", ", site.days as u64);
+        say::text(b" days between maintenance");
     }
 }
 
