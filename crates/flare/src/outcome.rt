@@ -7,10 +7,15 @@ ghost use Rattle.lines.specs.Lines.{siteLine};
 ghost use Rattle.flare.specs.Report.{ending};
 use crate::ending::put_ending;
 use crate::ending::put_refused_site;
+use crate::feed::Fed;
+use crate::feed::MINUTES;
 use crate::streams::print;
 use crate::summary::print_rules;
 use account::Account;
+use minute::Minute;
 use refusals::Refusal;
+use refusals::Verdict;
+use tool06::Figures;
 
 // More: minutes may follow.
 pub(crate) enum Outcome {
@@ -46,7 +51,7 @@ fn finish(account: Account, out: &mut [u8]) -> bool
 }
 
 // The last lines, before which a summary has the minutes under each rule. Answers whether they could be printed.
-pub(crate) fn end(account: Account, summary: bool, out: &mut [u8]) -> bool
+fn end(account: Account, summary: bool, out: &mut [u8]) -> bool
     requires { ⌜ Kept account ⌝ }
     requires { ⌜ length (now out) ≡ 65536 ⌝ }
 {
@@ -58,6 +63,42 @@ pub(crate) fn end(account: Account, summary: bool, out: &mut [u8]) -> bool
         }
     }
     finish(account, out)
+}
+
+// Says why the record was refused that stands behind those that were taken from this buffer; all before it were full.
+fn explain(refusal: Refusal, account: Account, records: &[u8]) {
+    let at = (account.minutes % MINUTES) as usize * Minute::BYTES;
+    if at <= records.len() {
+        notes::refused_minute(refusal, &records[at..], account.minutes, account.site);
+    }
+}
+
+// What a measured flare's total is not, where minutes count as overdue.
+fn warn(account: Account) {
+    let counts = account.counts;
+    let overdue = counts[Figures::OVERDUE as usize];
+    if 0 < overdue {
+        notes::overdue(overdue);
+    }
+}
+
+// The last lines, and then what is to be said of them.
+pub(crate) fn conclude(fed: Fed, summary: bool, records: &[u8], out: &mut [u8]) -> Outcome
+    requires { ⌜ Kept (fed .account) ⌝ }
+    requires { ⌜ length (now out) ≡ 65536 ⌝ }
+{
+    if !end(fed.account, summary, out) {
+        return Outcome::Failed;
+    }
+    warn(fed.account);
+    let verdict = fed.verdict;
+    match verdict {
+        Verdict::Fine => Outcome::Well,
+        Verdict::Refuse(refusal) => {
+            explain(refusal, fed.account, records);
+            Outcome::Refused
+        }
+    }
 }
 
 // All that is printed of a site that is refused.
