@@ -49,12 +49,10 @@ pub fn understood(site: Site) {
 // What a measured flare's total is worth without maintenance days.
 pub fn overdue(minutes: u32) {
     say::number(
-        b"flare: THIS TOTAL IS NOT THE SITE'S. A measured flare was judged without maintenance days, so ",
+        b"flare: THIS TOTAL IS NOT THE SITE'S. A measured flare was judged without maintenance days; minutes that count as overdue (rule 7): ",
         minutes as u64,
     );
-    say::text(
-        b" minutes count as overdue (rule 7); examples/host.c takes the days, and README.md says how (A measured flare)\n",
-    );
+    say::text(b"; examples/host.c takes the days (README.md, A measured flare)\n");
 }
 
 // Whether a byte begins a text: printable, a line's end, or a mark of how the text is encoded.
