@@ -17,7 +17,7 @@ pub nowhere : (b : List ℕ) (at : ℕ) (line : List ℕ) → length b < at + 16
 unfolding placed placeAfter
 nowhere b at line h = rw (lt-leb _ _ h) (refl, refl)
 
--- no line is put anywhere
+-- an empty line changes nothing
 pub no-line : (b : List ℕ) (at : ℕ) {line : List ℕ} → line ≡ [] → (at ≡ placeAfter b at line) × (b ≡ placed b at line)
 unfolding placed placeAfter put
 no-line b at e = rw (e, add-zero) (either (hasRoom b at))
