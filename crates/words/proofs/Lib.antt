@@ -1,0 +1,7 @@
+pub mod Between
+pub mod Decimals
+pub mod Filling
+pub mod Pairs
+pub mod Signs
+pub mod Spaces
+pub mod Walking

@@ -1,0 +1,31 @@
+-- The number that a word spells in decimal.
+use Prim.Native.Nat.{ℕ, _+_, _-_, _*_, _%_}
+use mathlib.Core.Bool.{Bool, cond, _&&_}
+use mathlib.Core.List.{List, [], _∷_}
+use lib.Dec.{leb, eqb}
+use Rattle.words.specs.declared.number.Number.{Number}
+use Rattle.words.specs.declared.number.Number.the-variants.{Is, Wrong}
+
+-- "0" to "9"
+abbrev pub isDigit : ℕ → Bool
+isDigit c = leb 48 c && leb c 57
+
+-- digits after those that spell a; a number above the most that may stand there is none
+unfoldable pub spelled : ℕ → ℕ → List ℕ → Number
+spelled most a [] = cond (leb a most) (Is a) Wrong
+spelled most a (c ∷ cs) = cond (isDigit c) (spelled most (a * 10 + (c - 48)) cs) Wrong
+
+-- at least one digit
+unfoldable pub numberOf : ℕ → List ℕ → Number
+numberOf most [] = Wrong
+numberOf most (c ∷ cs) = spelled most 0 (c ∷ cs)
+
+-- a number below zero as two bytes hold it
+unfoldable pub negative : Number → Number
+negative (Is n) = cond (leb n 65536) (Is ((65536 - n) % 65536)) Wrong
+negative Wrong = Wrong
+
+-- -32768 to 32767, with "-" before a number below zero
+unfoldable pub signedOf : List ℕ → Number
+signedOf [] = Wrong
+signedOf (c ∷ cs) = cond (eqb c 45) (negative (numberOf 32768 cs)) (numberOf 32767 (c ∷ cs))
