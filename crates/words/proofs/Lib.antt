@@ -4,4 +4,5 @@ pub mod Filling
 pub mod Pairs
 pub mod Signs
 pub mod Spaces
+pub mod Unique
 pub mod Walking
