@@ -25,19 +25,13 @@ pub(crate) enum Outcome {
     Failed,
 }
 
-// The launcher listens here, and makes an exit status of what it is told.
-const LAUNCHER: i32 = 3;
-
-fn status(outcome: Outcome) -> u64 {
+// What the launcher is told.
+pub(crate) fn status(outcome: Outcome) -> u64 {
     match outcome {
         Outcome::Well => 0,
         Outcome::Refused => 1,
         Outcome::Failed | Outcome::More => 2,
     }
-}
-
-pub(crate) fn tell(outcome: Outcome) {
-    io::print_decimal(LAUNCHER, status(outcome));
 }
 
 // The total and the year, once every minute's line is printed.

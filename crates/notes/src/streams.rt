@@ -3,7 +3,7 @@ use crate::say;
 
 pub fn unread() {
     say::text(
-        b"flare: the input could not be read to its end, so there is no total: look at the file or its connection and run again\n",
+        b"flare: the input could not be read to its end, and nothing follows what was printed: look at the file or its connection and run again\n",
     );
 }
 
