@@ -58,17 +58,52 @@ struct account {
     uint32_t counts[RULES];
 };
 
+/* 01's chart point, in tonnes. */
+struct chart_point {
+    double fed, co2e;
+};
+
+/* What a run check answers: ACCEPTED, or the number and, unless the run was not of whole records, its place. */
+struct run_answer {
+    uint8_t refusal;
+    int placed;
+    uint32_t day, minute;
+};
+
+/* A part of a lent run, by its place in it; of length 0 where the run has no such day. */
+struct run_part {
+    size_t at, length;
+};
+
 uint32_t reference_year_minutes(uint16_t year);
 enum flare_class reference_class(const struct site *site);
+
+/* Fields alone: a site's 3 to 9; a minute's 12 to 18, where 13 is a number that no year has. */
+uint8_t reference_site_refusal(const struct site *site);
+uint8_t reference_minute_refusal(const struct minute *minute);
+
+/* Reading alone: the record's 1 and 2 first. After a refusal the fields mean nothing. */
+uint8_t reference_read_site(const uint8_t *bytes, size_t length, struct site *site);
+uint8_t reference_read_minute(const uint8_t *bytes, size_t length, struct minute *minute);
+
+/* Writing: 22 first, then the fields' refusals. A refusal leaves the buffer. */
+uint8_t reference_write_site(const struct site *site, uint8_t *buffer, size_t room);
+uint8_t reference_write_minute(const struct minute *minute, uint8_t *buffer, size_t room);
 
 /* The single minute: the same call as the product's flare_minute. */
 uint8_t reference_minute(const uint8_t *site, size_t site_len, const uint8_t *minute, size_t minute_len,
                          uint16_t days, uint8_t *answer, size_t answer_len);
 
 /* The account: each gives ACCEPTED or the refusal, and a refusal changes nothing. The list's days may be NULL for 0. */
+uint8_t reference_open_fields(struct account *account, const struct site *site, const int32_t *days, size_t count);
 uint8_t reference_open(struct account *account, const uint8_t *bytes, size_t length, const int32_t *days, size_t count);
 uint8_t reference_add(struct account *account, const uint8_t *bytes, size_t length, struct figures *figures);
 uint8_t reference_close(const struct account *account, uint64_t *tonnes);
 uint64_t reference_co2e(const struct account *account);
+struct chart_point reference_chart(const struct account *account);
+
+/* Calls over a run of minute records. */
+struct run_answer reference_check(const struct account *account, const uint8_t *run, size_t length);
+struct run_part reference_day_part(size_t length, uint32_t day);
 
 #endif
