@@ -15,9 +15,13 @@ struct outcome {
 };
 
 /* Each writes at `at` and gives the place after it; the record call also says whether it was refused. */
+char *put_number(char *at, uint64_t number);
+char *line_refused(char *at, uint32_t expected, uint8_t refusal);
 char *line_site_refused(char *at, uint8_t refusal);
 char *line_of_record(char *at, struct account *account, const uint8_t *bytes, size_t length, uint8_t *refusal);
 char *lines_of_rules(char *at, const struct account *account);
+char *line_of_total(char *at, const struct account *account);
+char *line_of_year(char *at, const struct account *account);
 char *lines_of_end(char *at, const struct account *account);
 
 /* The whole text for an input that lies in memory, with an empty list; `text` has room for text_room(length). */
