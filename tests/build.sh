@@ -3,6 +3,7 @@
 
 shared_files=(random inputs edges near_whole year program texts)
 reference_files=(reference equations lines)
+desk_files=(reference_records reference_runs reference_reply reference_words reference_desk)
 
 # object FOLDER SOURCE compiler...: one object file.
 object() {
@@ -30,6 +31,15 @@ build_reference() {
     for name in "${reference_files[@]}"; do
         object "$to/native" "$sources/$name.c" "${c_native[@]}" "$@"
         object "$to/x86" "$sources/$name.c" "${c_for_x86[@]}" "$@"
+    done
+}
+
+# build_desk_reference SOURCES OUT WORDS...: what the desk needs beside it; only drivers of this machine's kind are linked with that.
+build_desk_reference() {
+    local sources=$1 to=$2 name
+    shift 2
+    for name in "${desk_files[@]}"; do
+        object "$to/native" "$sources/$name.c" "${c_native[@]}" -Werror "$@"
     done
 }
 
@@ -70,6 +80,14 @@ build_reference_program() {
     local to=$1
     shift
     "${c_for_x86[@]}" -O3 "$@" "$root"/tests/{reference_main,reference,equations,lines}.c -o "$to"
+}
+
+# build_reference_desk OUT WORDS...: the reference's desk as a program, for this machine.
+build_reference_desk() {
+    local to=$1 name sources=()
+    shift
+    for name in reference_desk_main "${desk_files[@]}" "${reference_files[@]}"; do sources+=("$root/tests/$name.c"); done
+    "${c_native[@]}" -Werror -O2 "$@" "${sources[@]}" -o "$to"
 }
 
 # build_hosts: the examples host.c and host.rs. rustc comes without an x86-64 target on Arm, so there host.rs is linked with
