@@ -1,0 +1,105 @@
+// An answer is put into a buffer piece by piece; each call answers the place after what it put, and puts nothing where there is no room.
+ghost use Prim.Native.Nat.{_+_, _≤_, _<_};
+ghost use lib.ListN.{length};
+use refusals::Refusal;
+
+fn copy(out: &mut [u8], at: usize, words: &[u8])
+    requires { ⌜ at + length (now words) ≤ length (now out) ⌝ }
+{
+    let mut i: usize = 0;
+    while i < words.len() {
+        out[at + i] = words[i];
+        i = i + 1;
+    }
+}
+
+pub(crate) fn text(out: &mut [u8], at: usize, words: &[u8]) -> usize {
+    if at <= out.len() {
+        if words.len() <= out.len() - at {
+            copy(out, at, words);
+            return at + words.len();
+        }
+    }
+    at
+}
+
+pub(crate) fn end(out: &mut [u8], at: usize) -> usize {
+    text(out, at, b"\n")
+}
+
+pub(crate) fn number(out: &mut [u8], at: usize, n: u64) -> usize {
+    let mut digits = [0u8; 20];
+    let count = io::decimal(n, &mut digits);
+    text(out, at, &digits[0..count])
+}
+
+// Words, and a number after them.
+pub(crate) fn named(out: &mut [u8], at: usize, words: &[u8], n: u64) -> usize {
+    let at = text(out, at, words);
+    number(out, at, n)
+}
+
+fn number_at(numbers: &[u32], i: usize) -> u32 {
+    if i < numbers.len() { numbers[i] } else { 0 }
+}
+
+// Words, and each of these numbers after a space.
+pub(crate) fn each(out: &mut [u8], at: usize, words: &[u8], numbers: &[u32]) -> usize {
+    let mut at = text(out, at, words);
+    let mut i: usize = 0;
+    while i < numbers.len() {
+        at = named(out, at, b" ", number_at(numbers, i) as u64);
+        i = i + 1;
+    }
+    at
+}
+
+// Words, and after them a number that may be below zero.
+pub(crate) fn signed(out: &mut [u8], at: usize, words: &[u8], n: i16) -> usize {
+    let at = text(out, at, words);
+    if n < 0 {
+        named(out, at, b"-", 65_536 - records::unsigned(n) as u64)
+    } else {
+        number(out, at, records::unsigned(n) as u64)
+    }
+}
+
+fn glyph(digit: u8) -> u8
+    requires { ⌜ digit < 16 ⌝ }
+{
+    if digit < 10 { 48 + digit } else { 87 + digit }
+}
+
+// A byte's two digits.
+fn pair(out: &mut [u8], at: usize, byte: u8) -> usize {
+    let digits = [glyph(byte / 16), glyph(byte % 16)];
+    text(out, at, &digits)
+}
+
+// Bytes in hexadecimal.
+pub(crate) fn hex(out: &mut [u8], at: usize, bytes: &[u8]) -> usize {
+    let mut at = at;
+    let mut i: usize = 0;
+    while i < bytes.len() {
+        at = pair(out, at, bytes[i]);
+        i = i + 1;
+    }
+    at
+}
+
+// 64 bits in hexadecimal, all sixteen digits.
+pub(crate) fn bits(out: &mut [u8], at: usize, n: u64) -> usize {
+    let mut digits = [0u8; 16];
+    let count = io::hex(n, 16, &mut digits);
+    text(out, at, &digits[0..count])
+}
+
+pub(crate) fn refused(out: &mut [u8], at: usize, refusal: Refusal) -> usize {
+    named(out, at, b"refused ", refusal.number() as u64)
+}
+
+// A refusal that is all of the answer.
+pub(crate) fn only_refused(out: &mut [u8], at: usize, refusal: Refusal) -> usize {
+    let at = refused(out, at, refusal);
+    end(out, at)
+}

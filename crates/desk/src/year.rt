@@ -1,0 +1,36 @@
+// The calls that tell what an account comes to: `total`, `counts`, `close` and `chart`.
+ghost use Rattle.account.specs.Kept.{Kept};
+use crate::put;
+use account::Account;
+use account::Closed;
+
+pub(crate) fn counts(account: Account, out: &mut [u8], at: usize) -> usize {
+    let counts = account.counts;
+    let at = put::each(out, at, b"counts", &counts);
+    put::end(out, at)
+}
+
+pub(crate) fn close(account: Account, out: &mut [u8], at: usize) -> usize
+    requires { ⌜ Kept account ⌝ }
+{
+    match account.close() {
+        Closed::Tonnes(_) => lines::put_year(out, at, account),
+        Closed::Refused(refusal) => put::only_refused(out, at, refusal),
+    }
+}
+
+// What is no number is unlike itself; a chart point never is one.
+fn bits_of(x: f64) -> u64 {
+    if x == x { f64::to_bits(x) } else { 0 }
+}
+
+pub(crate) fn chart(account: Account, out: &mut [u8], at: usize) -> usize
+    requires { ⌜ Kept account ⌝ }
+{
+    let point = account.chart();
+    let at = put::text(out, at, b"chart ");
+    let at = put::bits(out, at, bits_of(point.fed));
+    let at = put::text(out, at, b" ");
+    let at = put::bits(out, at, bits_of(point.co2e));
+    put::end(out, at)
+}
