@@ -34,7 +34,7 @@ build_reference() {
     done
 }
 
-# build_desk_reference SOURCES OUT WORDS...: what the desk needs beside it; only drivers of this machine's kind are linked with that.
+# build_desk_reference SOURCES OUT WORDS...: what the desk needs beside it, for this machine only.
 build_desk_reference() {
     local sources=$1 to=$2 name
     shift 2
