@@ -34,7 +34,7 @@ static void fail(const char *what)
     exit(2);
 }
 
-static pid_t start(char **command, const char *errors, int *in, int *out)
+pid_t start_program(char **command, const char *errors, int *in, int *out)
 {
     int to[2], from[2];
     pid_t pid;
@@ -161,7 +161,7 @@ void run_program(char **command, const struct feed *feed, struct answer *answer)
     time_t begun = time(NULL);
     signal(SIGPIPE, SIG_IGN);
     memset(answer, 0, sizeof *answer);
-    pid_t pid = start(command, feed->errors, &talk.in, &talk.out);
+    pid_t pid = start_program(command, feed->errors, &talk.in, &talk.out);
     while (talk.out >= 0) {
         talk_once(&talk);
         if (!answer->late && time(NULL) - begun > LIMIT_SECONDS) {

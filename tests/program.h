@@ -4,6 +4,8 @@
 
 #include "inputs.h"
 
+#include <sys/types.h>
+
 /* Pieces of at most `largest` bytes; after one in `wait` of them the program must take it before the next. */
 struct feed {
     const uint8_t *input;
@@ -22,6 +24,9 @@ struct answer {
 };
 
 void run_program(char **command, const struct feed *feed, struct answer *answer);
+
+/* Starts it with a pipe to its input and one from its output, neither of which blocks; `errors` as in a feed. */
+pid_t start_program(char **command, const char *errors, int *in, int *out);
 
 /* The command after "--" on a driver's own command line; ends the driver where there is none. */
 char **command_after_dashes(char **words);
