@@ -176,14 +176,25 @@ static void fill_to(struct run *run, uint32_t minute)
     say_call(run, CALL_FILL);
 }
 
-/* To the end of the year or almost, over it, and what is answered when it is full. */
+static void how_it_stands(struct run *run)
+{
+    for (enum call call = CALL_TOTAL; call <= CALL_CHART && goes_on(run); call++)
+        some_call(run, call);
+}
+
+/* Almost to the end of the year, up to its last minute, over it, and what is answered when it is full. */
 static void end_of_year(struct run *run)
 {
-    static const uint32_t before[] = {0, 1, 1, 2, 2, 3, 5, 12};
+    static const uint32_t some[] = {0, 1, 2, 3, 6, 12};
     struct random *random = &run->teller.random;
-    uint32_t end = reference_year_minutes(teller_site(&run->teller)->year);
+    uint32_t end = reference_year_minutes(teller_site(&run->teller)->year), before = PICK(random, some);
     some_lines(run, account_call, random_below(random, 6));
-    fill_to(run, end - PICK(random, before));
+    fill_to(run, end - before);
+    for (uint32_t adds = before / 2; adds > 0 && goes_on(run); adds--)
+        some_call(run, CALL_ADD);
+    if (minutes_left(&run->teller) > 1)
+        fill_to(run, end - 1);
+    how_it_stands(run);
     some_lines(run, account_call, random_between(random, 10, 30));
     if (minutes_left(&run->teller) > 0)
         fill_to(run, end);
@@ -208,8 +219,7 @@ static void one_chapter(struct run *run, int year)
     else if (random_one_in(&run->teller.random, 12))
         round_midnight(run);
     some_lines(run, any_call, random_between(&run->teller.random, 5, 70));
-    for (enum call call = CALL_TOTAL; call <= CALL_CHART && goes_on(run); call++)
-        some_call(run, call);
+    how_it_stands(run);
 }
 
 /* ---- Conversations. ---- */
