@@ -4,6 +4,7 @@
 shared_files=(random inputs edges near_whole year program texts)
 reference_files=(reference equations lines)
 desk_files=(reference_records reference_runs reference_reply reference_words reference_desk)
+talk_files=(desk_text desk_forms desk_records desk_lists desk_calls desk_runs desk_spoilt desk_talk)
 
 # object FOLDER SOURCE compiler...: one object file.
 object() {
@@ -18,6 +19,9 @@ build_shared() {
     local name
     for name in "${shared_files[@]}" host_run program_inputs whole_years host_lists host_years year_file; do
         object "$out/native" "$root/tests/$name.c" "${c_native[@]}"
+    done
+    for name in "${talk_files[@]}" desk_tally desk_talks desk_bad_lines desk_bad_text desk_lockstep; do
+        object "$out/native" "$root/tests/$name.c" "${c_native[@]}" -Werror
     done
     for name in random inputs edges near_whole host_calls examples_of_01; do
         object "$out/x86" "$root/tests/$name.c" "${c_for_x86[@]}"
@@ -74,6 +78,20 @@ link_program() { link_native "$1" program_inputs; }
 link_years() { link_native "$1" whole_years; }
 link_host_lists() { link_native "$1" host_lists host_run; }
 link_host_years() { link_native "$1" host_years host_run; }
+
+# link_desk OUT NAME OBJECTS...: the driver NAME of the desk, with these objects and the reference's desk built there.
+link_desk() {
+    local to=$1 name=$2 reference
+    shift
+    objects_in "$to/native" "${reference_files[@]}" "${desk_files[@]}"
+    reference=("${objects[@]}")
+    objects_in "$out/native" "$@" "${talk_files[@]}" "${shared_files[@]}"
+    "${c_native[@]}" "${objects[@]}" "${reference[@]}" -o "$to/$name"
+}
+
+link_desk_talks() { link_desk "$1" desk_talks desk_tally; }
+link_desk_bad_text() { link_desk "$1" desk_bad_text desk_bad_lines; }
+link_desk_lockstep() { link_desk "$1" desk_lockstep; }
 
 # build_reference_program OUT WORDS...: the reference as a program, which the bench times; x86-64 like the product.
 build_reference_program() {
