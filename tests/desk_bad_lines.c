@@ -1,7 +1,6 @@
 /* Each way of going wrong is one function over a line that was a call; the reference knows what it is answered then. */
 #include "desk_bad_lines.h"
 
-#include "desk_records.h"
 #include "desk_spoilt.h"
 
 #include <ctype.h>

@@ -1,7 +1,6 @@
 /* Bad text for the desk, beside the reference: an answer each time, never an end, and the next call is answered rightly.
  * Usage: desk_bad_text lines seed keep-folder -- command... */
 #include "desk_bad_lines.h"
-#include "desk_records.h"
 #include "desk_talk.h"
 #include "program.h"
 
@@ -51,6 +50,7 @@ static void say_known(struct run *run)
         printf("difference: the reference does not answer as 01 says\n");
         print_line("line     ", line.bytes, line.length);
         print_line("reference", reply->text, reply->length);
+        keep_talk(&run->talk, run->folder, "desk-bad-text-reference");
         run->good = 0;
     }
     free(line.bytes);

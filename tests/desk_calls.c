@@ -2,7 +2,6 @@
 #include "desk_calls.h"
 
 #include "desk_lists.h"
-#include "desk_records.h"
 
 const struct site *teller_site(const struct teller *teller)
 {

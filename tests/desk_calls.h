@@ -3,6 +3,7 @@
 #define DESK_CALLS_H
 
 #include "desk_forms.h"
+#include "desk_records.h"
 #include "desk_text.h"
 #include "reference_desk.h"
 
@@ -27,12 +28,11 @@ void fill_up_to(struct teller *teller, uint32_t minute);
 const struct site *teller_site(const struct teller *teller);
 uint32_t minutes_left(const struct teller *teller);
 
+/* The place of the next minute, with a number that is wrong there. */
+struct place next_place(struct teller *teller);
+
 /* In desk_runs.c: the two calls that carry a run. */
 void check_line(struct teller *teller);
 void part_line(struct teller *teller);
-
-/* The place of the next minute, with a number that is wrong there. */
-struct place;
-struct place next_place(struct teller *teller);
 
 #endif

@@ -1,7 +1,6 @@
 /* A desk that is talked to line by line: each answer is there before the next line is sent.
  * Usage: desk_lockstep lines seed keep-folder -- command... */
 #define _GNU_SOURCE
-#include "desk_records.h"
 #include "desk_spoilt.h"
 #include "desk_talk.h"
 #include "program.h"

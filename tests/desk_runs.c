@@ -1,8 +1,6 @@
 /* Runs of minute records: whole, cut, with one record spoilt, beginning elsewhere; of a few records or of days. */
 #include "desk_calls.h"
 
-#include "desk_records.h"
-
 enum { DAY_BYTES = DAY_MINUTES * MINUTE_BYTES, NOT_SPOILT = -1 };
 /* What fits into the longest line after the name, and a day with zeros before it. */
 enum { MOST_RUN = (LONGEST - 60) / 2 };
@@ -76,12 +74,13 @@ void check_line(struct teller *teller)
 /* A run of whole days, of a byte less or more, or the longest; the day asked for is mostly one of them, or the next. */
 static size_t run_of_days(struct random *random, uint32_t *day)
 {
-    uint32_t days = random_one_in(random, 4) ? random_between(random, 2, 3) : 1;
-    if (!random_one_in(random, 8))
-        *day = random_below(random, days + random_one_in(random, 6));
+    static const int more[] = {-1, 0, 0, 0, 1};
+    uint32_t days = random_one_in(random, 5) ? random_between(random, 2, 3) : 1, next = (uint32_t)random_one_in(random, 8);
+    if (!random_one_in(random, 10))
+        *day = random_below(random, days + next);
     if (random_one_in(random, 24))
         return MOST_RUN;
-    return days * DAY_BYTES - 1 + random_below(random, 3);
+    return (size_t)((int)days * DAY_BYTES + PICK(random, more));
 }
 
 void part_line(struct teller *teller)

@@ -1,8 +1,6 @@
 /* Each spoilt line has all its words before the spoilt one right, so that what is said of it is known beforehand. */
 #include "desk_spoilt.h"
 
-#include "desk_records.h"
-
 #include <ctype.h>
 #include <stdio.h>
 #include <string.h>

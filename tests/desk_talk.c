@@ -103,20 +103,35 @@ static uint64_t same_lines(const struct talk *talk, const struct answer *answer)
     return lines;
 }
 
-static void show(const struct talk *talk, const struct answer *answer, const char *folder, const char *name)
+static void print_end(const struct answer *answer)
 {
-    uint64_t line = same_lines(talk, answer);
-    printf("difference: line %llu (from 1) of %llu in %s; %zu bytes of answers, the reference has %zu\n",
-           (unsigned long long)line + 1, (unsigned long long)talk->lines, name, answer->length, talk->expected.length);
     if (answer->late)
         printf("  the desk was still running after two minutes\n");
     else if (!WIFEXITED(answer->status))
         printf("  the desk was ended by signal %d\n", WTERMSIG(answer->status));
     else if (WEXITSTATUS(answer->status) != 0)
         printf("  the desk ended with status %d\n", WEXITSTATUS(answer->status));
-    print_line_of("line     ", talk->input.bytes, talk->input.length, line);
-    print_line_of("desk     ", answer->text, answer->length, line);
-    print_line_of("reference", talk->expected.bytes, talk->expected.length, line);
+}
+
+static int same_answers(const struct talk *talk, const struct answer *answer)
+{
+    return answer->length == talk->expected.length &&
+           (answer->length == 0 || memcmp(answer->text, talk->expected.bytes, answer->length) == 0);
+}
+
+static void show(const struct talk *talk, const struct answer *answer, const char *folder, const char *name)
+{
+    uint64_t line = same_lines(talk, answer);
+    if (same_answers(talk, answer)) {
+        printf("difference: all answers are right in %s, but not the end\n", name);
+    } else {
+        printf("difference: line %llu (from 1) of %llu in %s; %zu bytes of answers, the reference has %zu\n",
+               (unsigned long long)line + 1, (unsigned long long)talk->lines, name, answer->length, talk->expected.length);
+        print_line_of("line     ", talk->input.bytes, talk->input.length, line);
+        print_line_of("desk     ", answer->text, answer->length, line);
+        print_line_of("reference", talk->expected.bytes, talk->expected.length, line);
+    }
+    print_end(answer);
     keep_talk(talk, folder, name);
     fflush(stdout);
 }
@@ -139,9 +154,8 @@ int talk_agrees(const struct talk *talk, char **command, const char *folder, con
     struct answer answer;
     struct feed feed = feed_of(talk, random);
     run_program(command, &feed, &answer);
-    int same = answer.length == talk->expected.length &&
-               (answer.length == 0 || memcmp(answer.text, talk->expected.bytes, answer.length) == 0);
-    int good = same && !answer.late && WIFEXITED(answer.status) && WEXITSTATUS(answer.status) == 0;
+    int ended = !answer.late && WIFEXITED(answer.status) && WEXITSTATUS(answer.status) == 0;
+    int good = ended && same_answers(talk, &answer);
     if (!good)
         show(talk, &answer, folder, name);
     free(answer.text);

@@ -1,5 +1,4 @@
 /* Random conversations with the desk, beside the reference. Usage: desk_talks calls seed keep-folder -- command... */
-#include "desk_records.h"
 #include "desk_spoilt.h"
 #include "desk_talk.h"
 #include "desk_tally.h"
@@ -33,6 +32,7 @@ static void reference_differs(struct run *run, const char *expected)
     print_line("line     ", run->teller.line.bytes, run->teller.line.length);
     print_line("form     ", expected, strlen(expected));
     print_line("reference", run->talk.reply.text, run->talk.reply.length);
+    keep_talk(&run->talk, run->folder, "desk-talk-reference");
     run->good = 0;
 }
 

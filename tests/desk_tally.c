@@ -108,8 +108,8 @@ static const char *const other_names[OTHERS] = {"lines too long", "lines that ar
 static void outcome_words(enum call call, int outcome, char words[64])
 {
     const char *what = outcome < SECOND ? "refused" : call == CALL_CHECK ? "placed" : "minute refused";
-    if (outcome == ACCEPTED || outcome == NO_ACCOUNT)
-        snprintf(words, 64, "%s", outcome == ACCEPTED ? "answered" : "no account");
+    if (outcome == ACCEPTED || outcome == NO_ACCOUNT || outcome == DAY)
+        snprintf(words, 64, "%s", outcome == ACCEPTED ? "answered" : outcome == DAY ? "empty" : "no account");
     else
         snprintf(words, 64, "%s %d", what, outcome % REFUSALS);
 }
