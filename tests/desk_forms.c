@@ -29,7 +29,11 @@ const struct form forms[CALLS] = {
 
 const char no_call_message[] = "what? expected a call: site minute write-site write-minute class open add fill check part "
                                "total counts close chart single";
-const char too_long_message[] = "what? expected a line of at most 1100000 characters";
+
+void too_long_message(char message[MESSAGE_ROOM])
+{
+    snprintf(message, MESSAGE_ROOM, "what? expected a line of at most %d characters", LONGEST);
+}
 
 static const char *kind_in_words(char kind)
 {

@@ -26,10 +26,13 @@ enum { MESSAGE_ROOM = 256, NO_WORD = -1 };
 
 /* What the desk says where that word, counted from 0, is not of its kind; NO_WORD: too many words or too few. */
 void form_message(enum call call, int word, char message[MESSAGE_ROOM]);
-extern const char no_call_message[], too_long_message[];
+extern const char no_call_message[];
 
-/* The longest line, and the ends of a kind of number. */
-enum { LONGEST = 1100000 };
+/* The longest line, and what is said of a longer one. */
+enum { LONGEST = 320000 };
+void too_long_message(char message[MESSAGE_ROOM]);
+
+/* The ends of a kind of number. */
 void ends_of_kind(char kind, int64_t *least, int64_t *most);
 
 #endif

@@ -75,7 +75,7 @@ void check_line(struct teller *teller)
 static size_t run_of_days(struct random *random, uint32_t *day)
 {
     static const int more[] = {-1, 0, 0, 0, 1};
-    uint32_t days = random_one_in(random, 5) ? random_between(random, 2, 3) : 1, next = (uint32_t)random_one_in(random, 8);
+    uint32_t days = random_one_in(random, 5) ? 2 : 1, next = (uint32_t)random_one_in(random, 8);
     if (!random_one_in(random, 10))
         *day = random_below(random, days + next);
     if (random_one_in(random, 24))

@@ -114,8 +114,10 @@ static void some_empty_line(struct run *run)
 
 static void some_long_line(struct run *run)
 {
+    char message[MESSAGE_ROOM];
     too_long_line(&run->teller);
-    say_other(run, too_long_message, &run->tally.others[TOO_LONG]);
+    too_long_message(message);
+    say_other(run, message, &run->tally.others[TOO_LONG]);
 }
 
 /* ---- Chapters: an opening and what follows it. ---- */

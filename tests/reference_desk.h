@@ -4,7 +4,7 @@
 
 #include "reference.h"
 
-enum { LONGEST_LINE = 1100000 };
+enum { LONGEST_LINE = 320000 };
 
 struct reply { char *text; size_t length, room; }; /* all zero at first; grows as it must; freed by the caller */
 struct desk { int open; struct account account; }; /* all zero: no account */
