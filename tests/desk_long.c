@@ -69,6 +69,14 @@ static void line(const char *words, const uint8_t *bytes, size_t length)
     putchar('\n');
 }
 
+/* The same with one digit more, which makes it no call. */
+static void odd_line(const char *words, const uint8_t *bytes, size_t length)
+{
+    fputs(words, stdout);
+    hex(bytes, length);
+    puts("0");
+}
+
 /* A flare 1,000 mm wide. `list` is nothing, or " days " and the days. */
 static void open_flare(uint8_t method, uint16_t year, uint32_t height, uint16_t days, const char *list)
 {
@@ -213,6 +221,8 @@ static void parts_of_two_days(uint8_t *run)
     line("part 0 ", run, DAY_BYTES - 1);
     puts("# no record, day 0");
     line("part 0 ", run, 0);
+    puts("# two days, and one digit more");
+    odd_line("part 0 ", run, 2 * DAY_BYTES);
 }
 
 static void checks_of_two_days(uint8_t *run)
@@ -226,8 +236,9 @@ static void checks_of_two_days(uint8_t *run)
     puts("# its record 1440 broken too");
     *flags_of(run, DAY_MINUTES) = 15;
     line("check ", run, 2 * DAY_BYTES);
-    puts("# and one byte short");
+    puts("# and one byte short, and one digit too many");
     line("check ", run, 2 * DAY_BYTES - 1);
+    odd_line("check ", run, 2 * DAY_BYTES);
     puts("total");
 }
 
