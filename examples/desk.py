@@ -1,0 +1,98 @@
+#!/usr/bin/env python3
+"""The account of a flare with its days of maintenance, by ./flare desk; Python 3.8 or later is all it needs.
+
+    python3 examples/desk.py                              the example day, with maintenance on 20 December
+    python3 examples/desk.py FILE 2026-12-20 2027-03-22   a record file, and its days of maintenance, or none
+
+A day is a date, or a number that counts from 0 for 1 January of the site's year: -12 is the 20 December before it.
+Prints the total, the year and the share destroyed. Exit status: 0, 1 after a refusal, 2 after a failure.
+"""
+import datetime
+import os
+import subprocess
+import sys
+
+HERE = os.path.dirname(os.path.realpath(__file__))
+FLARE = os.path.join(os.path.dirname(HERE), "flare")
+EXAMPLE = [os.path.join(HERE, "tall-measured-day"), "-12"]
+SITE_BYTES, MINUTE_BYTES = 30, 54
+OVERDUE = 7  # the rule of a minute whose maintenance is overdue
+
+
+class Refused(Exception):
+    """The rules refuse a record, or the list of days."""
+
+
+class Failed(Exception):
+    """The desk gave no answer, or did not understand."""
+
+
+class Desk:
+    """./flare desk, kept open through a pipe; ./flare desk --help lists what it can be asked."""
+
+    def __enter__(self):
+        self.program = subprocess.Popen([FLARE, "desk"], stdin=subprocess.PIPE, stdout=subprocess.PIPE, encoding="ascii")
+        return self
+
+    def __exit__(self, *_):
+        self.program.communicate()  # closes the pipe, and the desk ends
+
+    def ask(self, *words):
+        """Sends the words as one line, and gives the line that is the answer."""
+        try:
+            print(*words, file=self.program.stdin, flush=True)
+            answer = self.program.stdout.readline()
+        except BrokenPipeError:
+            answer = ""
+        if not answer.endswith("\n"):
+            raise Failed(f"the desk ended with status {self.program.wait()} and did not answer '{words[0]}'")
+        if answer.startswith(("what?", "no account")):
+            raise Failed(f"the desk answered '{words[0]}' with '{answer[:-1]}'")
+        if "refused" in answer.split():
+            raise Refused(f"{words[0]}: {answer[:-1]}")
+        return answer[:-1]
+
+
+def day_of(word, year):
+    """The day that the word names, as the desk counts days."""
+    try:
+        if word.lstrip("-").isdigit():
+            return int(word)
+        return (datetime.date.fromisoformat(word) - datetime.date(year, 1, 1)).days
+    except ValueError:
+        raise Failed(f"'{word}' is not a day: give a date as 2026-12-20, or a day of the site's year as -12")
+
+
+def add_up(desk, records, words):
+    """Opens the account of a record file, with maintenance on these days, adds its minutes and prints how it stands."""
+    site = records.read(SITE_BYTES).hex()
+    year = int(desk.ask("site", site).split()[4])  # site method 1 year 2027 ..
+    desk.ask("open", site, "days", *[day_of(word, year) for word in words])
+    while record := records.read(MINUTE_BYTES):
+        desk.ask("add", record.hex())
+    total = desk.ask("total")
+    print(total)
+    try:
+        print(desk.ask("close"))
+    except Refused:  # minutes are missing
+        print("year", year, "open")
+    fed, destroyed = int(total.split()[5]), int(total.split()[9])  # total A gas G fed F emitted E destroyed D co2e C
+    print(f"{100 * destroyed / fed:.1f} % destroyed" if fed else "no gas")
+    print("minutes overdue:", desk.ask("counts").split()[1 + OVERDUE])
+
+
+def main(name, *words):
+    try:
+        with open(name, "rb") as records, Desk() as desk:
+            add_up(desk, records, words)
+    except Refused as refusal:
+        print(f"desk.py: {refusal}; ./flare --help explains the number", file=sys.stderr)
+        return 1
+    except (Failed, OSError) as failure:
+        print(f"desk.py: {failure}", file=sys.stderr)
+        return 2
+    return 0
+
+
+if __name__ == "__main__":
+    sys.exit(main(*(sys.argv[1:] or EXAMPLE)))
