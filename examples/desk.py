@@ -64,27 +64,28 @@ def day_of(word, year):
 
 
 def add_up(desk, records, words):
-    """Opens the account of a record file, with maintenance on these days, adds its minutes and prints how it stands."""
+    """Opens the account of a record file, with maintenance on these days, and adds its minutes. Gives how it stands."""
     site = records.read(SITE_BYTES).hex()
     year = int(desk.ask("site", site).split()[4])  # site method 1 year 2027 ..
     desk.ask("open", site, "days", *[day_of(word, year) for word in words])
     while record := records.read(MINUTE_BYTES):
         desk.ask("add", record.hex())
-    total = desk.ask("total")
-    print(total)
+    total = desk.ask("total")  # total A gas G fed F emitted E destroyed D co2e C
     try:
-        print(desk.ask("close"))
+        closed = desk.ask("close")
     except Refused:  # minutes are missing
-        print("year", year, "open")
-    fed, destroyed = int(total.split()[5]), int(total.split()[9])  # total A gas G fed F emitted E destroyed D co2e C
-    print(f"{100 * destroyed / fed:.1f} % destroyed" if fed else "no gas")
-    print("minutes overdue:", desk.ask("counts").split()[1 + OVERDUE])
+        closed = f"year {year} open"
+    fed, destroyed = int(total.split()[5]), int(total.split()[9])
+    share = f"{100 * destroyed / fed:.1f} % destroyed" if fed else "no gas"
+    overdue = desk.ask("counts").split()[1 + OVERDUE]
+    return f"{total}\n{closed}\n{share}\nminutes overdue: {overdue}\n"
 
 
 def main(name, *words):
     try:
         with open(name, "rb") as records, Desk() as desk:
-            add_up(desk, records, words)
+            text = add_up(desk, records, words)
+        os.write(1, text.encode())  # standard output, at once: print would meet a full disk only when all is over
     except Refused as refusal:
         print(f"desk.py: {refusal}; ./flare --help explains the number", file=sys.stderr)
         return 1
