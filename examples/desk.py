@@ -9,8 +9,8 @@ Prints the total, the year and the share destroyed. Exit status: 0, 1 after a re
 """
 import datetime
 import os
-import subprocess
 import sys
+from subprocess import PIPE, Popen
 
 HERE = os.path.dirname(os.path.realpath(__file__))
 FLARE = os.path.join(os.path.dirname(HERE), "flare")
@@ -31,7 +31,7 @@ class Desk:
     """./flare desk, kept open through a pipe; ./flare desk --help lists what it can be asked."""
 
     def __enter__(self):
-        self.program = subprocess.Popen([FLARE, "desk"], stdin=subprocess.PIPE, stdout=subprocess.PIPE, encoding="ascii")
+        self.program = Popen([FLARE, "desk"], stdin=PIPE, stdout=PIPE, encoding="ascii")
         return self
 
     def __exit__(self, *_):
