@@ -7,7 +7,7 @@
 #include <stdlib.h>
 #include <string.h>
 
-enum { DAY_BYTES = DAY_MINUTES * MINUTE_BYTES, WEEK = 7 };
+enum { DAY_BYTES = DAY_MINUTES * MINUTE_BYTES };
 
 /* ---- Minutes whose readings go by the minute's number, so that every rule of a flare comes up. ---- */
 
@@ -242,13 +242,12 @@ static void checks_of_two_days(uint8_t *run)
     puts("total");
 }
 
-static void seven_days(void)
+static void three_days(void)
 {
-    uint8_t *run = run_of(0, WEEK * DAY_MINUTES);
-    puts("\n# Seven days, the longest run of whole days that a line holds: its last day, the day after it, and the check.");
-    line("part 6 ", run, WEEK * DAY_BYTES);
-    line("part 7 ", run, WEEK * DAY_BYTES);
-    line("check ", run, WEEK * DAY_BYTES);
+    uint8_t *run = run_of(0, 3 * DAY_MINUTES);
+    puts("\n# Three days are more than a line holds.");
+    line("part 2 ", run, 3 * DAY_BYTES);
+    line("check ", run, 3 * DAY_BYTES);
     free(run);
 }
 
@@ -258,7 +257,7 @@ static void runs(void)
     over_midnight();
     parts_of_two_days(run);
     checks_of_two_days(run);
-    seven_days();
+    three_days();
     free(run);
 }
 
@@ -275,7 +274,7 @@ static void line_of_length(const char *words, size_t length, const char *end)
 
 static void lengths(void)
 {
-    puts("# The longest line has 1100000 characters: a record far too long, one digit more, and with a return, also shorter.");
+    puts("# The longest line has 320000 characters: a record far too long, one digit more, and with a return, also shorter.");
     line_of_length("class ", LONGEST_LINE, "\n");
     line_of_length("class ", LONGEST_LINE + 1, "\n");
     line_of_length("class ", LONGEST_LINE, "\r\n");
