@@ -5,19 +5,19 @@ ghost use Rattle.account.specs.Kept.{Kept};
 ghost use Rattle.desk.specs.Desk.{Ready};
 use crate::adding;
 use crate::adding::Grown;
-use crate::call::Call;
 use crate::opening;
-use crate::put;
 use crate::reading;
 use crate::runs;
-use crate::take::SECOND_AT;
-use crate::take::part;
-use crate::take::u32_of;
 use crate::turn::Desk;
 use crate::turn::Turn;
 use crate::writing;
 use crate::year;
 use account::Account;
+use forms::call::Call;
+use forms::put;
+use forms::take::SECOND_AT;
+use forms::take::part;
+use forms::take::u32_of;
 
 // The calls that need no account.
 fn of_records(call: Call, values: [usize; 15], bytes: &[u8], out: &mut [u8], at: usize) -> usize {

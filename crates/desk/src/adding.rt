@@ -1,9 +1,9 @@
 // The calls that add minutes to an account: `add` and `fill`.
 ghost use Rattle.account.specs.Kept.{Kept};
-use crate::put;
-use crate::take::part;
 use account::Account;
 use account::Added;
+use forms::put;
+use forms::take::part;
 use refusals::Verdict;
 use tool06::Judged;
 

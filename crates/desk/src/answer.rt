@@ -1,15 +1,15 @@
 // The answer to a line.
 ghost use Rattle.desk.specs.Desk.{Ready};
 use crate::act::act;
-use crate::call::Call;
-use crate::call::call_of;
-use crate::call::words_of;
-use crate::expected;
-use crate::put;
-use crate::take::Fit;
-use crate::take::Taken;
 use crate::turn::Desk;
 use crate::turn::Turn;
+use forms::call::Call;
+use forms::call::call_of;
+use forms::call::words_of;
+use forms::expected;
+use forms::put;
+use forms::take::Fit;
+use forms::take::Taken;
 
 // Whether the words are all that the line has; those of `open` go on with its list.
 fn whole(call: Call, line: &[u8], taken: Taken) -> Fit {

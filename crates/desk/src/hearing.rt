@@ -4,9 +4,9 @@ ghost use Prim.Native.Nat.{_≤_};
 ghost use lib.ListN.{length};
 ghost use Rattle.desk.specs.Desk.{Ready};
 use crate::answer::answer;
-use crate::expected;
 use crate::turn::Desk;
 use crate::turn::Turn;
+use forms::expected;
 
 // What is heard of a line that is longer than its buffer: more than any buffer has.
 const TOO_LONG: usize = 18_446_744_073_709_551_615;

@@ -2,14 +2,10 @@
 mod act;
 mod adding;
 mod answer;
-mod call;
-mod expected;
 mod hearing;
 mod opening;
-mod put;
 mod reading;
 mod runs;
-mod take;
 mod turn;
 mod writing;
 mod year;

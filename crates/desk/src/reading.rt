@@ -1,5 +1,5 @@
 // The calls that read a record: `site`, `minute` and `class`.
-use crate::put;
+use forms::put;
 use minute::Gas;
 use minute::Minute;
 use minute::MinuteRead;

@@ -1,7 +1,7 @@
 // The calls for a run of records: `check` and `part`.
 ghost use Rattle.account.specs.Kept.{Kept};
-use crate::put;
 use account::Account;
+use forms::put;
 use minute::Minute;
 use run::Checked;
 

@@ -1,8 +1,8 @@
 // The calls that write into a lent buffer: `write-site`, `write-minute` and `single`, the C call. The buffer holds a5 before.
 ghost use Prim.Native.Nat.{_≤_};
 ghost use lib.ListN.{length};
-use crate::put;
-use crate::take::u32_of;
+use forms::put;
+use forms::take::u32_of;
 use minute::Gas;
 use minute::Minute;
 use minute::Readings;

@@ -1,8 +1,8 @@
 // The calls that tell what an account comes to: `total`, `counts`, `close` and `chart`.
 ghost use Rattle.account.specs.Kept.{Kept};
-use crate::put;
 use account::Account;
 use account::Closed;
+use forms::put;
 
 pub(crate) fn counts(account: Account, out: &mut [u8], at: usize) -> usize {
     let counts = account.counts;

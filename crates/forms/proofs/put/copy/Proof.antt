@@ -2,8 +2,8 @@ use Prim.Native.Nat.{_+_, _-_, _≤_}
 use mathlib.Core.Path.{_≡_}
 use lib.ListN.{length}
 use borrow.Author.Needs.{needs}
-use Rattle.desk.proofs.put.copy.Statement.{statement}
-use Rattle.desk.proofs.put.copy.Tie as tie
+use Rattle.forms.proofs.put.copy.Statement.{statement}
+use Rattle.forms.proofs.put.copy.Tie as tie
 
 abbrev Inv-loop : tie.InvT-loop
 Inv-loop out₀ at words i₀ out i = (length out ≡ length out₀) × (i ≤ length words) × (at + length words ≤ length out₀)

@@ -1,17 +1,18 @@
 use Prim.Native.Nat.{_-_, _≤_}
+use mathlib.Core.Path.{_≡_}
 use lib.ListN.{length}
 use borrow.Author.Needs.{needs}
-use Rattle.desk.proofs.expected.name_of.Statement.{statement}
-use Rattle.desk.proofs.expected.name_of.Tie as tie
+use Rattle.forms.proofs.put.each.Statement.{statement}
+use Rattle.forms.proofs.put.each.Tie as tie
 
 abbrev Inv-loop : tie.InvT-loop
-Inv-loop form place end₀ left₀ end left = end ≤ length form
+Inv-loop out₀ at words numbers at₀ i₀ t7 out at' i = (length out ≡ length out₀) × (i ≤ length numbers)
 
 abbrev μ-loop : tie.MeasureT-loop
-μ-loop form place end₀ left₀ end left = length form - end
+μ-loop out₀ at words numbers at₀ i₀ t7 out at' i = length numbers - i
 
-pub name-of-spec : {M : Type 1} → statement M
-name-of-spec =
+pub each-spec : {M : Type 1} → statement M
+each-spec =
     tie.close
     (tie.spec
     Inv-loop
@@ -21,11 +22,7 @@ name-of-spec =
     (λ c. search needs)
     (λ c κs. search needs)
     (λ c. search needs)
-    (λ c. search needs)
-    (λ c. search needs)
-    (λ c. search needs)
-    (λ c. search needs)
-    (λ c. search needs)
+    (λ c κs. search needs)
     (λ c. search needs)
     (λ c. search needs)
     (λ c. search needs)

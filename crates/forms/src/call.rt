@@ -4,7 +4,7 @@ ghost use lib.ListN.{length};
 use crate::take::Taken;
 use crate::take::take;
 
-pub(crate) enum Call {
+pub enum Call {
     Site,
     Minute,
     WriteSite,
@@ -78,12 +78,12 @@ fn account_call(name: &[u8]) -> Call {
     record_call(name)
 }
 
-pub(crate) fn call_of(name: &[u8]) -> Call {
+pub fn call_of(name: &[u8]) -> Call {
     account_call(name)
 }
 
 // Takes the words of a call from where its name ends; a letter stands for the kind of each.
-pub(crate) fn words_of(call: Call, line: &[u8], end: usize, bytes: &mut [u8]) -> Taken
+pub fn words_of(call: Call, line: &[u8], end: usize, bytes: &mut [u8]) -> Taken
     requires { ⌜ end ≤ length (now line) ⌝ }
     ensures { λ r. ⌜ r .end ≤ length (now (line .entry)) ⌝ }
 {

@@ -13,7 +13,7 @@ fn copy(out: &mut [u8], at: usize, words: &[u8])
     }
 }
 
-pub(crate) fn text(out: &mut [u8], at: usize, words: &[u8]) -> usize {
+pub fn text(out: &mut [u8], at: usize, words: &[u8]) -> usize {
     if at <= out.len() {
         if words.len() <= out.len() - at {
             copy(out, at, words);
@@ -23,18 +23,18 @@ pub(crate) fn text(out: &mut [u8], at: usize, words: &[u8]) -> usize {
     at
 }
 
-pub(crate) fn end(out: &mut [u8], at: usize) -> usize {
+pub fn end(out: &mut [u8], at: usize) -> usize {
     text(out, at, b"\n")
 }
 
-pub(crate) fn number(out: &mut [u8], at: usize, n: u64) -> usize {
+pub fn number(out: &mut [u8], at: usize, n: u64) -> usize {
     let mut digits = [0u8; 20];
     let count = io::decimal(n, &mut digits);
     text(out, at, &digits[0..count])
 }
 
 // Words, and a number after them.
-pub(crate) fn named(out: &mut [u8], at: usize, words: &[u8], n: u64) -> usize {
+pub fn named(out: &mut [u8], at: usize, words: &[u8], n: u64) -> usize {
     let at = text(out, at, words);
     number(out, at, n)
 }
@@ -44,7 +44,7 @@ fn number_at(numbers: &[u32], i: usize) -> u32 {
 }
 
 // Words, and each of these numbers after a space.
-pub(crate) fn each(out: &mut [u8], at: usize, words: &[u8], numbers: &[u32]) -> usize {
+pub fn each(out: &mut [u8], at: usize, words: &[u8], numbers: &[u32]) -> usize {
     let mut at = text(out, at, words);
     let mut i: usize = 0;
     while i < numbers.len() {
@@ -55,7 +55,7 @@ pub(crate) fn each(out: &mut [u8], at: usize, words: &[u8], numbers: &[u32]) -> 
 }
 
 // Words, and after them a number that may be below zero.
-pub(crate) fn signed(out: &mut [u8], at: usize, words: &[u8], n: i16) -> usize {
+pub fn signed(out: &mut [u8], at: usize, words: &[u8], n: i16) -> usize {
     let at = text(out, at, words);
     if n < 0 {
         named(out, at, b"-", 65_536 - records::unsigned(n) as u64)
@@ -77,7 +77,7 @@ fn pair(out: &mut [u8], at: usize, byte: u8) -> usize {
 }
 
 // Bytes in hexadecimal.
-pub(crate) fn hex(out: &mut [u8], at: usize, bytes: &[u8]) -> usize {
+pub fn hex(out: &mut [u8], at: usize, bytes: &[u8]) -> usize {
     let mut at = at;
     let mut i: usize = 0;
     while i < bytes.len() {
@@ -88,18 +88,18 @@ pub(crate) fn hex(out: &mut [u8], at: usize, bytes: &[u8]) -> usize {
 }
 
 // 64 bits in hexadecimal, all sixteen digits.
-pub(crate) fn bits(out: &mut [u8], at: usize, n: u64) -> usize {
+pub fn bits(out: &mut [u8], at: usize, n: u64) -> usize {
     let mut digits = [0u8; 16];
     let count = io::hex(n, 16, &mut digits);
     text(out, at, &digits[0..count])
 }
 
-pub(crate) fn refused(out: &mut [u8], at: usize, refusal: Refusal) -> usize {
+pub fn refused(out: &mut [u8], at: usize, refusal: Refusal) -> usize {
     named(out, at, b"refused ", refusal.number() as u64)
 }
 
 // A refusal that is all of the answer.
-pub(crate) fn only_refused(out: &mut [u8], at: usize, refusal: Refusal) -> usize {
+pub fn only_refused(out: &mut [u8], at: usize, refusal: Refusal) -> usize {
     let at = refused(out, at, refusal);
     end(out, at)
 }

@@ -1,18 +1,17 @@
 use Prim.Native.Nat.{_-_, _≤_}
-use mathlib.Core.Path.{_≡_}
 use lib.ListN.{length}
 use borrow.Author.Needs.{needs}
-use Rattle.desk.proofs.put.each.Statement.{statement}
-use Rattle.desk.proofs.put.each.Tie as tie
+use Rattle.forms.proofs.expected.name_of.Statement.{statement}
+use Rattle.forms.proofs.expected.name_of.Tie as tie
 
 abbrev Inv-loop : tie.InvT-loop
-Inv-loop out₀ at words numbers at₀ i₀ t7 out at' i = (length out ≡ length out₀) × (i ≤ length numbers)
+Inv-loop form place end₀ left₀ end left = end ≤ length form
 
 abbrev μ-loop : tie.MeasureT-loop
-μ-loop out₀ at words numbers at₀ i₀ t7 out at' i = length numbers - i
+μ-loop form place end₀ left₀ end left = length form - end
 
-pub each-spec : {M : Type 1} → statement M
-each-spec =
+pub name-of-spec : {M : Type 1} → statement M
+name-of-spec =
     tie.close
     (tie.spec
     Inv-loop
@@ -22,7 +21,11 @@ each-spec =
     (λ c. search needs)
     (λ c κs. search needs)
     (λ c. search needs)
-    (λ c κs. search needs)
+    (λ c. search needs)
+    (λ c. search needs)
+    (λ c. search needs)
+    (λ c. search needs)
+    (λ c. search needs)
     (λ c. search needs)
     (λ c. search needs)
     (λ c. search needs)

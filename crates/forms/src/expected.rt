@@ -7,7 +7,7 @@ use crate::take::LONG;
 use crate::take::SIGNED;
 use crate::take::WORD;
 
-pub(crate) fn too_long(out: &mut [u8], at: usize) -> usize {
+pub fn too_long(out: &mut [u8], at: usize) -> usize {
     put::text(
         out,
         at,
@@ -62,7 +62,7 @@ fn put_form(out: &mut [u8], at: usize, form: &[u8], fit: Fit) -> usize {
 }
 
 // The form of a call, and which of its words was not of its kind.
-pub(crate) fn put(out: &mut [u8], at: usize, call: Call, fit: Fit) -> usize {
+pub fn put(out: &mut [u8], at: usize, call: Call, fit: Fit) -> usize {
     match call {
         Call::Site => put_form(out, at, b"site HEX", fit),
         Call::Minute => put_form(out, at, b"minute HEX", fit),

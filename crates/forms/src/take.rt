@@ -4,33 +4,33 @@ ghost use lib.ListN.{length};
 use words::Number;
 
 // The kinds of words: a number of one, two or four bytes, one of two bytes with a sign, or bytes in hexadecimal.
-pub(crate) const BYTE: u8 = 49;
+pub const BYTE: u8 = 49;
 
-pub(crate) const WORD: u8 = 50;
+pub const WORD: u8 = 50;
 
-pub(crate) const LONG: u8 = 52;
+pub const LONG: u8 = 52;
 
-pub(crate) const SIGNED: u8 = 115;
+pub const SIGNED: u8 = 115;
 
-pub(crate) const HEX: u8 = 120;
+pub const HEX: u8 = 120;
 
 // The bytes of a second record stand apart from the first one's.
-pub(crate) const SECOND: u8 = 121;
+pub const SECOND: u8 = 121;
 
-pub(crate) const SECOND_AT: usize = 160_000;
+pub const SECOND_AT: usize = 160_000;
 
 // No call has more words.
 const MOST: usize = 15;
 
 // Whether the words are as the call's form has them: a word is missing or left over, or one is not of its kind.
-pub(crate) enum Fit {
+pub enum Fit {
     Fits,
     Form,
     Wrong { place: usize, kind: u8 },
 }
 
 // Numbers as they are, in two's complement where they have a sign, and for bytes how many there are; and where the last word ends.
-pub(crate) struct Taken {
+pub struct Taken {
     pub values: [usize; 15],
     pub end: usize,
     pub fit: Fit,
@@ -70,7 +70,7 @@ fn value_of(word: &[u8], kind: u8, bytes: &mut [u8]) -> Value {
 }
 
 // Takes a word of each kind in turn, from where the last word ends.
-pub(crate) fn take(line: &[u8], end: usize, kinds: &[u8], bytes: &mut [u8]) -> Taken
+pub fn take(line: &[u8], end: usize, kinds: &[u8], bytes: &mut [u8]) -> Taken
     requires { ⌜ end ≤ length (now line) ⌝ }
     ensures { λ r. ⌜ r .end ≤ length (now (line .entry)) ⌝ }
 {
@@ -110,12 +110,12 @@ pub(crate) fn take(line: &[u8], end: usize, kinds: &[u8], bytes: &mut [u8]) -> T
 }
 
 // A value that was taken as a number of four bytes.
-pub(crate) fn u32_of(value: usize) -> u32 {
+pub fn u32_of(value: usize) -> u32 {
     (value % 4_294_967_296) as u32
 }
 
 // A part of the bytes, or none where they do not have it.
-pub(crate) fn part(bytes: &[u8], from: usize, count: usize) -> &[u8] {
+pub fn part(bytes: &[u8], from: usize, count: usize) -> &[u8] {
     if from <= bytes.len() {
         if count <= bytes.len() - from {
             return &bytes[from..from + count];

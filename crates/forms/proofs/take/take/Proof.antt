@@ -2,8 +2,8 @@ use Prim.Native.Nat.{_-_, _≤_}
 use mathlib.Core.Path.{_≡_}
 use lib.ListN.{length}
 use borrow.Author.Needs.{needs}
-use Rattle.desk.proofs.take.take.Statement.{statement}
-use Rattle.desk.proofs.take.take.Tie as tie
+use Rattle.forms.proofs.take.take.Statement.{statement}
+use Rattle.forms.proofs.take.take.Tie as tie
 
 abbrev Inv-loop : tie.InvT-loop
 Inv-loop line end kinds bytes₀ values₀ end₀ place₀ bytes values end' place = (length bytes ≡ length bytes₀) × (end' ≤ length line) × (place ≤ length kinds)
