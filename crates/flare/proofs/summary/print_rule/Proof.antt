@@ -1,8 +1,23 @@
+use Prim.Native.Nat.{ℕ, _+_, _≤_}
+use mathlib.Core.Path.{_≡_}
+use mathlib.Core.List.{List}
 use native.Mathlib.Omega.{arith}
 use borrow.Author.Needs.{needs}
-use Rattle.flare.proofs.Placed.{ruled}
+use lib.ListN.{length}
+use Rattle.lines.specs.Lines.{ruleLine}
+use Rattle.lines.specs.Places.{placed, placeAfter, Written}
+use Rattle.lines.proofs.NoneCut.{none-cut}
+use Rattle.report.proofs.Placed.{whole}
 use Rattle.flare.proofs.summary.print_rule.Statement.{statement}
 use Rattle.flare.proofs.summary.print_rule.Tie as tie
+
+-- a rule's line, and the place after it
+ruled :
+    {b b' : List ℕ} {at next : ℕ} (rule minutes : ℕ) (words : List ℕ)
+    → at + 163 ≤ length b
+    → (next ≡ placeAfter b at (ruleLine rule minutes words)) × (b' ≡ placed b at (ruleLine rule minutes words))
+    → Written b at (ruleLine rule minutes words) b' next × (next ≤ at + 163)
+ruled rule minutes words h put-is = let w = whole h put-is in (w, omega (arith, w .place, none-cut .rule rule minutes words))
 
 part-write-all-end : tie.Need-part-write-all-end
 part-write-all-end c =

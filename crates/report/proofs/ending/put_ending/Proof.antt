@@ -2,9 +2,9 @@ use native.Mathlib.Omega.{arith}
 use borrow.Author.Needs.{needs}
 use Rattle.lines.proofs.NoneCut.{none-cut}
 use Rattle.lines.proofs.Putting.{onward}
-use Rattle.flare.proofs.Placed.{whole, at-start}
-use Rattle.flare.proofs.ending.put_ending.Statement.{statement}
-use Rattle.flare.proofs.ending.put_ending.Tie as tie
+use Rattle.report.proofs.Placed.{whole, at-start}
+use Rattle.report.proofs.ending.put_ending.Statement.{statement}
+use Rattle.report.proofs.ending.put_ending.Tie as tie
 
 returns : tie.Need-returns
 returns c =

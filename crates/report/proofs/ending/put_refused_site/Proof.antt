@@ -1,8 +1,8 @@
 use native.Mathlib.Omega.{arith}
 use borrow.Author.Needs.{needs}
-use Rattle.flare.proofs.Placed.{whole, at-start}
-use Rattle.flare.proofs.ending.put_refused_site.Statement.{statement}
-use Rattle.flare.proofs.ending.put_refused_site.Tie as tie
+use Rattle.report.proofs.Placed.{whole, at-start}
+use Rattle.report.proofs.ending.put_refused_site.Statement.{statement}
+use Rattle.report.proofs.ending.put_refused_site.Tie as tie
 
 returns : tie.Need-returns
 returns c = at-start (whole (omega arith) (c .before .before .put-site .ensures))
