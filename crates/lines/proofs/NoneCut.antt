@@ -13,9 +13,9 @@ use Rattle.account.specs.Closing.{co2e, closing}
 use Rattle.account.specs.declared.Account.{Account}
 use Rattle.account.specs.declared.close.Closed.{Closed}
 use Rattle.account.specs.declared.close.Closed.the-variants.{Tonnes, Refused as Missing}
+use Rattle.text.proofs.Decimals.{decimal-within}
 use Rattle.lines.specs.Lines.{methane, acceptedLine, refusedLine, minuteLine, totalLine, standing, yearLine, siteLine, ruleLine}
 use Rattle.lines.specs.Promises.{NoneCut}
-use Rattle.lines.proofs.Decimals.{decimal-within}
 
 methane-within : (fed emitted destroyed : ℕ) → length (methane fed emitted destroyed) ≤ 85
 unfolding methane

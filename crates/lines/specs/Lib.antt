@@ -1,4 +1,3 @@
 pub mod Lines
 pub mod Places
 pub mod Promises
-pub mod Text

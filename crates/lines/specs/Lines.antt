@@ -13,7 +13,7 @@ use Rattle.account.specs.Closing.{co2e, closing}
 use Rattle.account.specs.declared.Account.{Account}
 use Rattle.account.specs.declared.close.Closed.{Closed}
 use Rattle.account.specs.declared.close.Closed.the-variants.{Tonnes, Refused as Missing}
-use Rattle.lines.specs.Text.{text, decimal}
+use Rattle.text.specs.Text.{text, decimal}
 
 -- methane in mg, of a minute or of a year
 unfoldable pub methane : ℕ → ℕ → ℕ → List ℕ

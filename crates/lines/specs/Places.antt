@@ -1,6 +1,5 @@
 -- Where a line is put in a buffer: from a place on, if there is room for any line there; else nowhere.
 use Prim.Native.Nat.{ℕ, _+_}
-use mathlib.Core.Path.{_≡_}
 use mathlib.Core.Bool.{Bool, cond}
 use mathlib.Core.List.{List}
 use lib.Dec.{leb}
@@ -18,8 +17,3 @@ placed buffer at line = cond (hasRoom buffer at) (put buffer at line) buffer
 -- the place after it
 unfoldable pub placeAfter : List ℕ → ℕ → List ℕ → ℕ
 placeAfter buffer at line = cond (hasRoom buffer at) (at + length line) at
-
--- text put from a place on: what the buffer then holds, and the place after the text
-pub record Written (buffer : List ℕ) (at : ℕ) (text : List ℕ) (after : List ℕ) (next : ℕ) : Type 0 where
-  pub holds : after ≡ put buffer at text
-  pub place : next ≡ at + length text

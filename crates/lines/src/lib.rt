@@ -1,14 +1,13 @@
 // The lines of the program `flare`, each put into a buffer from a place on.
-mod text;
-
 ghost use mathlib.Core.Path.{_≡_};
 ghost use mathlib.Core.List.{_++_};
 ghost use Prim.Native.Nat.{_+_, _-_, _≤_};
 ghost use lib.ListN.{length};
 ghost use Rattle.account.specs.Kept.{Kept};
+ghost use Rattle.text.specs.Places.{Written};
+ghost use Rattle.text.specs.Text.{text, decimal};
 ghost use Rattle.lines.specs.Lines.{methane, acceptedLine, refusedLine, minuteLine, totalLine, standing, yearLine, siteLine, ruleLine};
-ghost use Rattle.lines.specs.Places.{placed, placeAfter, Written};
-ghost use Rattle.lines.specs.Text.{text, decimal};
+ghost use Rattle.lines.specs.Places.{placed, placeAfter};
 use account::Account;
 use account::Closed;
 use refusals::Refusal;

@@ -1,6 +1,6 @@
 use borrow.Author.Needs.{needs}
+use Rattle.text.proofs.Putting.{onward}
 use Rattle.lines.specs.Lines.{acceptedLine}
-use Rattle.lines.proofs.Putting.{onward}
 use Rattle.lines.proofs.put_accepted.Statement.{statement}
 use Rattle.lines.proofs.put_accepted.Tie as tie
 

@@ -1,7 +1,7 @@
 use borrow.Author.Needs.{needs}
 use native.Mathlib.Omega.{arith}
+use Rattle.text.proofs.Putting.{onward}
 use Rattle.lines.specs.Lines.{methane}
-use Rattle.lines.proofs.Putting.{onward}
 use Rattle.lines.proofs.put_methane.Statement.{statement}
 use Rattle.lines.proofs.put_methane.Tie as tie
 

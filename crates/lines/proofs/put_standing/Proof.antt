@@ -1,7 +1,7 @@
 use borrow.Author.Needs.{needs}
 use native.Mathlib.Omega.{arith}
+use Rattle.text.proofs.Putting.{onward}
 use Rattle.lines.specs.Lines.{standing}
-use Rattle.lines.proofs.Putting.{onward}
 use Rattle.lines.proofs.put_standing.Statement.{statement}
 use Rattle.lines.proofs.put_standing.Tie as tie
 

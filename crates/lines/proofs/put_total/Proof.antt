@@ -1,7 +1,7 @@
 use borrow.Author.Needs.{needs}
 use native.Mathlib.Omega.{arith}
+use Rattle.text.proofs.Putting.{onward}
 use Rattle.lines.specs.Lines.{totalLine}
-use Rattle.lines.proofs.Putting.{onward}
 use Rattle.lines.proofs.Placing.{there, nowhere}
 use Rattle.lines.proofs.put_total.Statement.{statement}
 use Rattle.lines.proofs.put_total.Tie as tie

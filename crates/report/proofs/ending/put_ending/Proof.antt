@@ -1,7 +1,7 @@
 use native.Mathlib.Omega.{arith}
 use borrow.Author.Needs.{needs}
+use Rattle.text.proofs.Putting.{onward}
 use Rattle.lines.proofs.NoneCut.{none-cut}
-use Rattle.lines.proofs.Putting.{onward}
 use Rattle.report.proofs.Placed.{whole, at-start}
 use Rattle.report.proofs.ending.put_ending.Statement.{statement}
 use Rattle.report.proofs.ending.put_ending.Tie as tie

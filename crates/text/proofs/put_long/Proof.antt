@@ -1,8 +1,8 @@
 use native.Mathlib.Omega.{arith}
 use borrow.Author.Needs.{needs}
-use Rattle.lines.proofs.Filling.{Left, all-left, one-less, none-left}
-use Rattle.lines.proofs.text.put_long.Statement.{statement}
-use Rattle.lines.proofs.text.put_long.Tie as tie
+use Rattle.text.proofs.Filling.{Left, all-left, one-less, none-left}
+use Rattle.text.proofs.put_long.Statement.{statement}
+use Rattle.text.proofs.put_long.Tie as tie
 
 abbrev Inv-loop : tie.InvT-loop
 Inv-loop out₀ at n count left₀ rest₀ out left rest = Left out₀ at n out left rest

@@ -3,8 +3,8 @@ ghost use mathlib.Core.Path.{_≡_};
 ghost use Prim.Native.Nat.{_+_, _≤_};
 ghost use lib.ListN.{length};
 ghost use Rattle.exact.specs.Bytes.{put};
-ghost use Rattle.lines.specs.Places.{Written};
-ghost use Rattle.lines.specs.Text.{decimal};
+ghost use Rattle.text.specs.Places.{Written};
+ghost use Rattle.text.specs.Text.{decimal};
 
 // How many digits n has in decimal.
 fn places(n: u64) -> usize
@@ -57,7 +57,7 @@ fn put_long(out: &mut [u8], at: usize, n: u64, count: usize)
     }
 }
 
-pub(crate) fn put_decimal(out: &mut [u8], at: usize, n: u64) -> usize
+pub fn put_decimal(out: &mut [u8], at: usize, n: u64) -> usize
     requires { ⌜ at + 20 ≤ length (now out) ⌝ }
     ensures { λ r. ⌜ Written (now (out .entry)) at (decimal n) (now (out .exit)) r ⌝ }
     ensures within { λ r. ⌜ r ≤ at + 20 ⌝ }
@@ -73,7 +73,7 @@ pub(crate) fn put_decimal(out: &mut [u8], at: usize, n: u64) -> usize
     }
 }
 
-pub(crate) fn put_text(out: &mut [u8], at: usize, text: &[u8]) -> usize
+pub fn put_text(out: &mut [u8], at: usize, text: &[u8]) -> usize
     requires { ⌜ at + length (now text) ≤ length (now out) ⌝ }
     ensures { λ r. ⌜ Written (now (out .entry)) at (now (text .entry)) (now (out .exit)) r ⌝ }
 {

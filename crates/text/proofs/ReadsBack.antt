@@ -4,9 +4,9 @@ use mathlib.Core.Path.{_≡_, refl, _∙_}
 use mathlib.Core.List.{List, [], _∷_, _++_}
 use native.Mathlib.Nat.{pow-suc}
 use native.Mathlib.Omega.{arith}
-use Rattle.lines.specs.Promises.{after, value, ReadsBack}
-use Rattle.lines.specs.Text.{digit, digits, decimal}
-use Rattle.lines.proofs.Decimals.{by-digits}
+use Rattle.text.specs.Promises.{after, value, ReadsBack}
+use Rattle.text.specs.Text.{digit, digits, decimal}
+use Rattle.text.proofs.Decimals.{by-digits}
 
 after-last : (a : ℕ) (ds : List ℕ) (d : ℕ) → after a (ds ++ (d ∷ [])) ≡ after a ds * 10 + (d - 48)
 after-last a [] d = refl

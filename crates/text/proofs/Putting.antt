@@ -7,7 +7,7 @@ use native.Mathlib.Omega.{arith}
 use lib.ListN.{length, set, length-append}
 use lib.Seq.{set-comm}
 use Rattle.exact.specs.Bytes.{put}
-use Rattle.lines.specs.Places.{Written}
+use Rattle.text.specs.Places.{Written}
 
 put-put : (b : List ℕ) (k : ℕ) (xs ys : List ℕ) → put (put b k xs) (k + length xs) ys ≡ put b k (xs ++ ys)
 unfolding put

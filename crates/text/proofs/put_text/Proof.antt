@@ -7,8 +7,8 @@ use lib.ListN.{length, drop, length-set, drop-of-length-le}
 use lib.Seq.{drop-cons}
 use borrow.Author.Needs.{needs}
 use Rattle.exact.specs.Bytes.{put}
-use Rattle.lines.proofs.text.put_text.Statement.{statement}
-use Rattle.lines.proofs.text.put_text.Tie as tie
+use Rattle.text.proofs.put_text.Statement.{statement}
+use Rattle.text.proofs.put_text.Tie as tie
 
 -- what is left of the text, put from here on, makes the whole
 abbrev Inv-loop : tie.InvT-loop

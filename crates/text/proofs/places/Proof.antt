@@ -4,9 +4,9 @@ use native.Mathlib.Nat.{pow-suc, pow-le-pow-right}
 use native.Mathlib.Numerals.{add-one}
 use native.Mathlib.Omega.{arith}
 use borrow.Author.Needs.{needs}
-use Rattle.lines.proofs.Decimals.{decimal-long}
-use Rattle.lines.proofs.text.places.Statement.{statement}
-use Rattle.lines.proofs.text.places.Tie as tie
+use Rattle.text.proofs.Decimals.{decimal-long}
+use Rattle.text.proofs.places.Statement.{statement}
+use Rattle.text.proofs.places.Tie as tie
 
 abbrev Inv-loop : tie.InvT-loop
 Inv-loop n k₀ limit₀ k limit = (0 < k) × (k ≤ 19) × (limit ≡ 10 ^ k) × (1 < k → limit ≤ n * 10)

@@ -5,10 +5,10 @@ use mathlib.Core.List.{List}
 use native.Mathlib.Omega.{arith}
 use lib.ListN.{length, set, length-set}
 use Rattle.exact.specs.Bytes.{put}
-use Rattle.lines.specs.Places.{Written}
-use Rattle.lines.specs.Text.{digit, decimal}
-use Rattle.lines.proofs.Decimals.{last, length-last, last-one, last-two, decimal-last, decimal-within}
-use Rattle.lines.proofs.Putting.{put-end, put-pair}
+use Rattle.text.specs.Places.{Written}
+use Rattle.text.specs.Text.{digit, decimal}
+use Rattle.text.proofs.Decimals.{last, length-last, last-one, last-two, decimal-last, decimal-within}
+use Rattle.text.proofs.Putting.{put-end, put-pair}
 
 -- the last two digits, and those before them
 two-last : (b : List ℕ) (at k n : ℕ) → 2 ≤ k

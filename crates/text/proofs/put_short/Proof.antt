@@ -1,9 +1,9 @@
 use native.Mathlib.Omega.{arith}
 use lib.ListN.{length-set}
 use borrow.Author.Needs.{needs}
-use Rattle.lines.proofs.Filling.{Left, all-left, two-less, only-one, none-left}
-use Rattle.lines.proofs.text.put_short.Statement.{statement}
-use Rattle.lines.proofs.text.put_short.Tie as tie
+use Rattle.text.proofs.Filling.{Left, all-left, two-less, only-one, none-left}
+use Rattle.text.proofs.put_short.Statement.{statement}
+use Rattle.text.proofs.put_short.Tie as tie
 
 abbrev Inv-loop : tie.InvT-loop
 Inv-loop out₀ at n count left₀ rest₀ out left rest = Left out₀ at n out left rest

@@ -1,9 +1,9 @@
 use native.Mathlib.Omega.{arith}
 use borrow.Author.Needs.{needs}
-use Rattle.lines.proofs.Decimals.{decimal-within}
-use Rattle.lines.proofs.Filling.{shown}
-use Rattle.lines.proofs.text.put_decimal.Statement.{statement}
-use Rattle.lines.proofs.text.put_decimal.Tie as tie
+use Rattle.text.proofs.Decimals.{decimal-within}
+use Rattle.text.proofs.Filling.{shown}
+use Rattle.text.proofs.put_decimal.Statement.{statement}
+use Rattle.text.proofs.put_decimal.Tie as tie
 
 add-next : tie.Need-add-next
 add-next c = record { fits = omega (arith, c .places .ensures, decimal-within (c .before .before .args .n)) }

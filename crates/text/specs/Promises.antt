@@ -1,0 +1,17 @@
+-- What decimals promise: a number reads back from its digits, so that no two numbers print alike.
+use Prim.Native.Nat.{ℕ, _+_, _-_, _*_, _^_, _<_}
+use mathlib.Core.Path.{_≡_}
+use mathlib.Core.List.{List, [], _∷_}
+use Rattle.text.specs.Text.{decimal}
+
+-- the number that digits spell after those that spell a
+abbrev pub after : ℕ → List ℕ → ℕ
+after a [] = a
+after a (d ∷ ds) = after (a * 10 + (d - 48)) ds
+
+-- the number that digits spell
+abbrev pub value : List ℕ → ℕ
+value ds = after 0 ds
+
+abbrev pub ReadsBack : Type 0
+ReadsBack = (n : ℕ) → n < 2 ^ 64 → value (decimal n) ≡ n
