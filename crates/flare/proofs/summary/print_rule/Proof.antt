@@ -5,7 +5,8 @@ use native.Mathlib.Omega.{arith}
 use borrow.Author.Needs.{needs}
 use lib.ListN.{length}
 use Rattle.lines.specs.Lines.{ruleLine}
-use Rattle.lines.specs.Places.{placed, placeAfter, Written}
+use Rattle.text.specs.Places.{Written}
+use Rattle.lines.specs.Places.{placed, placeAfter}
 use Rattle.lines.proofs.NoneCut.{none-cut}
 use Rattle.report.proofs.Placed.{whole}
 use Rattle.flare.proofs.summary.print_rule.Statement.{statement}
