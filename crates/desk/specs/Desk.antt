@@ -4,6 +4,6 @@ use mathlib.Core.Bool.{true}
 use Rattle.account.specs.Kept.{Kept}
 use Rattle.desk.specs.declared.turn.Desk.{Desk}
 
--- an account that is open came from the library's calls
+-- an account that is open has what the calls of an account require
 abbrev pub Ready : Desk → Type 0
 Ready d = d .open ≡ true → Kept (d .account)

@@ -33,7 +33,15 @@ fn of_records(call: Call, values: [usize; 15], bytes: &[u8], out: &mut [u8], at:
             let minute = part(bytes, SECOND_AT, values[1]);
             writing::single(values, site, minute, out, at)
         }
-        _ => at,
+        Call::Open
+        | Call::Add
+        | Call::Fill
+        | Call::Check
+        | Call::Total
+        | Call::Counts
+        | Call::Close
+        | Call::Chart
+        | Call::None => at,
     }
 }
 
@@ -54,7 +62,17 @@ fn of_account(
         Call::Counts => year::counts(account, out, at),
         Call::Close => year::close(account, out, at),
         Call::Chart => year::chart(account, out, at),
-        _ => at,
+        Call::Site
+        | Call::Minute
+        | Call::WriteSite
+        | Call::WriteMinute
+        | Call::Class
+        | Call::Open
+        | Call::Add
+        | Call::Fill
+        | Call::Part
+        | Call::Single
+        | Call::None => at,
     }
 }
 

@@ -23,7 +23,7 @@ pub enum Call {
     None,
 }
 
-// Of a record, or of a run of them.
+// A call that needs no account.
 fn record_call(name: &[u8]) -> Call {
     if check::same(name, b"site") {
         return Call::Site;
@@ -49,7 +49,7 @@ fn record_call(name: &[u8]) -> Call {
     Call::None
 }
 
-// Of an account.
+// A call of the account, or the one that opens it.
 fn account_call(name: &[u8]) -> Call {
     if check::same(name, b"add") {
         return Call::Add;
@@ -75,11 +75,15 @@ fn account_call(name: &[u8]) -> Call {
     if check::same(name, b"open") {
         return Call::Open;
     }
-    record_call(name)
+    Call::None
 }
 
 pub fn call_of(name: &[u8]) -> Call {
-    account_call(name)
+    let call = account_call(name);
+    match call {
+        Call::None => record_call(name),
+        _ => call,
+    }
 }
 
 // Takes the words of a call from where its name ends; a letter stands for the kind of each.

@@ -1,23 +1,14 @@
-// An answer is put into a buffer piece by piece; each call answers the place after what it put, and puts nothing where there is no room.
-ghost use Prim.Native.Nat.{_+_, _≤_, _<_};
-ghost use lib.ListN.{length};
+// An answer is put into a buffer piece by piece; each call answers the place after what it put. A piece for which there is no room is left out; the desk's buffer has room for the longest answer.
+ghost use Prim.Native.Nat.{_<_};
 use refusals::Refusal;
 
-fn copy(out: &mut [u8], at: usize, words: &[u8])
-    requires { ⌜ at + length (now words) ≤ length (now out) ⌝ }
-{
-    let mut i: usize = 0;
-    while i < words.len() {
-        out[at + i] = words[i];
-        i = i + 1;
-    }
-}
+// No number has more digits.
+const DIGITS: usize = 20;
 
 pub fn text(out: &mut [u8], at: usize, words: &[u8]) -> usize {
     if at <= out.len() {
         if words.len() <= out.len() - at {
-            copy(out, at, words);
-            return at + words.len();
+            return text::put_text(out, at, words);
         }
     }
     at
@@ -28,9 +19,12 @@ pub fn end(out: &mut [u8], at: usize) -> usize {
 }
 
 pub fn number(out: &mut [u8], at: usize, n: u64) -> usize {
-    let mut digits = [0u8; 20];
-    let count = io::decimal(n, &mut digits);
-    text(out, at, &digits[0..count])
+    if at <= out.len() {
+        if DIGITS <= out.len() - at {
+            return text::put_decimal(out, at, n);
+        }
+    }
+    at
 }
 
 // Words, and a number after them.

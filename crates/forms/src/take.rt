@@ -64,8 +64,9 @@ fn value_of(word: &[u8], kind: u8, bytes: &mut [u8]) -> Value {
         WORD => of_number(words::number_in(word, 65_535)),
         LONG => of_number(words::number_in(word, 4_294_967_295)),
         SIGNED => of_number(words::signed_in(word)),
+        HEX => of_hex(word, bytes, 0),
         SECOND => of_hex(word, bytes, SECOND_AT),
-        _ => of_hex(word, bytes, 0),
+        _ => Value::Wrong,
     }
 }
 

@@ -3,3 +3,4 @@ pub mod Placed
 pub mod Records
 pub mod Reports
 pub mod Sofar
+pub mod Unique
