@@ -17,11 +17,9 @@ object() {
 # The objects that do not depend on the reference's text; x86-64 only for what is linked with the product.
 build_shared() {
     local name
-    for name in "${shared_files[@]}" host_run program_inputs whole_years host_lists host_years year_file; do
+    for name in "${shared_files[@]}" host_run program_inputs whole_years host_lists host_years year_file \
+        "${talk_files[@]}" desk_tally desk_talks desk_bad_lines desk_bad_text desk_lockstep; do
         object "$out/native" "$root/tests/$name.c" "${c_native[@]}"
-    done
-    for name in "${talk_files[@]}" desk_tally desk_talks desk_bad_lines desk_bad_text desk_lockstep; do
-        object "$out/native" "$root/tests/$name.c" "${c_native[@]}" -Werror
     done
     for name in random inputs edges near_whole host_calls examples_of_01; do
         object "$out/x86" "$root/tests/$name.c" "${c_for_x86[@]}"
@@ -43,7 +41,7 @@ build_desk_reference() {
     local sources=$1 to=$2 name
     shift 2
     for name in "${desk_files[@]}"; do
-        object "$to/native" "$sources/$name.c" "${c_native[@]}" -Werror "$@"
+        object "$to/native" "$sources/$name.c" "${c_native[@]}" "$@"
     done
 }
 
@@ -105,7 +103,7 @@ build_reference_desk() {
     local to=$1 name sources=()
     shift
     for name in reference_desk_main "${desk_files[@]}" "${reference_files[@]}"; do sources+=("$root/tests/$name.c"); done
-    "${c_native[@]}" -Werror -O2 "$@" "${sources[@]}" -o "$to"
+    "${c_native[@]}" -O2 "$@" "${sources[@]}" -o "$to"
 }
 
 # build_hosts: the examples host.c and host.rs. rustc comes without an x86-64 target on Arm, so there host.rs is linked with

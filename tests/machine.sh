@@ -51,6 +51,7 @@ compiler_is_there() {
     }
 }
 
+warnings=(-Wall -Wextra -Werror)
 # Static, so that the emulator needs nothing else to run what is linked with the product's library.
-c_for_x86=("$cross" -static -std=gnu11 -Wall -Wextra -I "$root/tests" -I "$root/include")
-c_native=(gcc -std=gnu11 -Wall -Wextra -I "$root/tests")
+c_for_x86=("$cross" -static -std=gnu11 "${warnings[@]}" -I "$root/tests" -I "$root/include")
+c_native=(gcc -std=gnu11 "${warnings[@]}" -I "$root/tests")
