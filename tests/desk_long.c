@@ -1,5 +1,5 @@
 /* Lines for the desk that are too long or too many to be stored: years of different minutes, runs of days, the longest lines.
-   Usage: desk_long year-2027|year-2028|open-day|chart|runs|lengths; tests/desk/long has the answers. */
+   Usage: desk_long [year-2027|year-2028|open-day|chart|runs|lengths], without a word their names; tests/desk/long has the answers. */
 #include "inputs.h"
 #include "reference_desk.h"
 
@@ -297,11 +297,16 @@ int main(int count, char **words)
         void (*print)(void);
     } scripts[] = {{"year-2027", ordinary_year}, {"year-2028", leap_year}, {"open-day", open_day},
                    {"chart", chart}, {"runs", runs}, {"lengths", lengths}};
-    for (size_t i = 0; count == 2 && i < sizeof scripts / sizeof scripts[0]; i++) {
-        if (strcmp(words[1], scripts[i].name) != 0)
-            continue;
-        scripts[i].print();
-        return fflush(stdout) == 0 && !ferror(stdout) ? 0 : 1;
+    int known = count == 1;
+    for (size_t i = 0; i < sizeof scripts / sizeof scripts[0]; i++) {
+        if (count == 1)
+            puts(scripts[i].name);
+        if (count == 2 && strcmp(words[1], scripts[i].name) == 0) {
+            scripts[i].print();
+            known = 1;
+        }
     }
-    return fprintf(stderr, "usage: desk_long year-2027|year-2028|open-day|chart|runs|lengths\n"), 2;
+    if (!known)
+        return fprintf(stderr, "usage: desk_long [year-2027|year-2028|open-day|chart|runs|lengths]\n"), 2;
+    return fflush(stdout) == 0 && !ferror(stdout) ? 0 : 1;
 }
