@@ -1,5 +1,5 @@
 /* A desk that is talked to line by line: each answer is there before the next line is sent.
- * Usage: desk_lockstep lines seed keep-folder -- command... */
+ * Usage: desk_lockstep lines seed seconds keep-folder -- command...; the seconds are those that an answer may take. */
 #define _GNU_SOURCE
 #include "desk_spoilt.h"
 #include "desk_talk.h"
@@ -15,11 +15,12 @@
 #include <time.h>
 #include <unistd.h>
 
-enum { LIMIT_SECONDS = 10, READ_ROOM = 65536, MOST_TOGETHER = 12 };
+enum { READ_ROOM = 65536, MOST_TOGETHER = 12 };
 
 struct run {
     pid_t desk;
     int in, out; /* its input and its output; -1 where it is closed */
+    int64_t limit; /* the milliseconds that it may take */
     struct text got;
     const char *folder;
     struct teller teller;
@@ -66,7 +67,7 @@ static void wait_for(struct run *run, int64_t end, int sending)
     struct pollfd fds[] = {{.fd = run->out, .events = POLLIN}, {.fd = sending ? run->in : -1, .events = POLLOUT}};
     int64_t left = end - milliseconds();
     if (left <= 0 || (poll(fds, 2, (int)left) == 0))
-        differs(run, sending ? "the line is not taken within ten seconds" : "no whole answer within ten seconds");
+        differs(run, sending ? "the line is not taken in time" : "no whole answer in time");
     if (fds[0].revents)
         read_some(run);
     if (run->out < 0 && run->in >= 0)
@@ -75,7 +76,7 @@ static void wait_for(struct run *run, int64_t end, int sending)
 
 static void send_bytes(struct run *run, const char *bytes, size_t length)
 {
-    int64_t end = milliseconds() + LIMIT_SECONDS * 1000;
+    int64_t end = milliseconds() + run->limit;
     while (length > 0) {
         ssize_t put = write(run->in, bytes, length);
         if (put < 0 && errno != EAGAIN && errno != EINTR)
@@ -93,7 +94,7 @@ static void send_bytes(struct run *run, const char *bytes, size_t length)
 static void expect_answers(struct run *run)
 {
     struct text *expected = &run->talk.expected;
-    int64_t end = milliseconds() + LIMIT_SECONDS * 1000;
+    int64_t end = milliseconds() + run->limit;
     while (run->got.length < expected->length && run->out >= 0)
         wait_for(run, end, 0);
     if (run->got.length != expected->length || memcmp(run->got.bytes, expected->bytes, expected->length) != 0)
@@ -170,7 +171,7 @@ static void expect_end(struct run *run)
     close(run->in);
     run->in = -1;
     while (run->out >= 0)
-        wait_for(run, milliseconds() + LIMIT_SECONDS * 1000, 0);
+        wait_for(run, milliseconds() + run->limit, 0);
     expect_answers(run);
     if (waitpid(run->desk, &status, 0) != run->desk || !WIFEXITED(status) || WEXITSTATUS(status) != 0)
         differs(run, "the desk does not end with status 0");
@@ -180,12 +181,13 @@ int main(int words_count, char **words)
 {
     static struct run run;
     char **command = command_after_dashes(words);
-    if (words_count < 6 || command != words + 5)
-        return fprintf(stderr, "usage: desk_lockstep lines seed keep-folder -- command...\n"), 2;
+    if (words_count < 7 || command != words + 6)
+        return fprintf(stderr, "usage: desk_lockstep lines seed seconds keep-folder -- command...\n"), 2;
     uint64_t wanted = strtoull(words[1], NULL, 10);
     run.teller.random.state = strtoull(words[2], NULL, 10);
     run.teller.desk = &run.talk.desk;
-    run.folder = words[3];
+    run.limit = (int64_t)strtoul(words[3], NULL, 10) * 1000;
+    run.folder = words[4];
     valid_site(&run.teller.random, &run.teller.spare);
     signal(SIGPIPE, SIG_IGN);
 
