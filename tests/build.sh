@@ -106,6 +106,12 @@ build_reference_desk() {
     "${c_native[@]}" -O2 "$@" "${sources[@]}" -o "$to"
 }
 
+# link_reference_desk OUT: the same from the objects built there.
+link_reference_desk() {
+    objects_in "$1/native" reference_desk_main "${desk_files[@]}" "${reference_files[@]}"
+    "${c_native[@]}" "${objects[@]}" -o "$1/reference_desk"
+}
+
 # build_hosts: the examples host.c and host.rs. rustc comes without an x86-64 target on Arm, so there host.rs is linked with
 # the reference in the library's place: that tries its own part of the work, though not the library.
 build_hosts() {
