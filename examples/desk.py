@@ -13,7 +13,7 @@ import sys
 from subprocess import PIPE, Popen
 
 HERE = os.path.dirname(os.path.realpath(__file__))
-FLARE = os.path.join(os.path.dirname(HERE), "flare")
+FLARE = os.path.join(os.path.dirname(HERE), "flare")  # where ./flare is: change this in a copy of the script
 EXAMPLE = [os.path.join(HERE, "tall-measured-day"), "-12"]
 SITE_BYTES, MINUTE_BYTES = 30, 54
 OVERDUE = 7  # the rule of a minute whose maintenance is overdue
@@ -78,6 +78,8 @@ def add_up(desk, records, words):
     fed, destroyed = int(total.split()[5]), int(total.split()[9])
     share = f"{100 * destroyed / fed:.1f} % destroyed" if fed else "no gas"
     overdue = desk.ask("counts").split()[1 + OVERDUE]
+    if not words and overdue != "0":
+        print(f"desk.py: no maintenance days were given, and {overdue} minutes count as overdue: is that so?", file=sys.stderr)
     return f"{total}\n{closed}\n{share}\nminutes overdue: {overdue}\n"
 
 
@@ -96,4 +98,7 @@ def main(name, *words):
 
 
 if __name__ == "__main__":
+    if sys.argv[1:] in (["-h"], ["--help"]):
+        print(__doc__, end="")
+        sys.exit(0)
     sys.exit(main(*(sys.argv[1:] or EXAMPLE)))

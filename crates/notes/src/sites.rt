@@ -52,7 +52,7 @@ pub fn overdue(minutes: u32) {
         b"flare: THIS TOTAL IS NOT THE SITE'S. A measured flare was judged without maintenance days; minutes that count as overdue (rule 7): ",
         minutes as u64,
     );
-    say::text(b"; examples/host.c takes the days (README.md, A measured flare)\n");
+    say::text(b"; examples/desk.py takes the days (README.md, A measured flare)\n");
 }
 
 // Whether a byte begins a text: printable, a line's end, or a mark of how the text is encoded.
