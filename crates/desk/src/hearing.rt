@@ -1,5 +1,4 @@
 // Lines come in chunks, which end anywhere.
-ghost use mathlib.Core.Path.{_≡_};
 ghost use Prim.Native.Nat.{_≤_};
 ghost use lib.ListN.{length};
 ghost use Rattle.desk.specs.Desk.{Ready};

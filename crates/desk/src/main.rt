@@ -4,7 +4,6 @@ mod adding;
 mod answer;
 mod hearing;
 mod opening;
-mod reading;
 mod runs;
 mod turn;
 mod writing;

@@ -1,6 +1,4 @@
 // The calls that write into a lent buffer: `write-site`, `write-minute` and `single`, the C call. The buffer holds a5 before.
-ghost use Prim.Native.Nat.{_≤_};
-ghost use lib.ListN.{length};
 use forms::put;
 use forms::take::u32_of;
 use minute::Gas;

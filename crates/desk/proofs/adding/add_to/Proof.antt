@@ -1,4 +1,3 @@
-use mathlib.Core.Path.{_≡_}
 use borrow.Author.Needs.{needs}
 use Rattle.tool06.proofs.Ones.{ones, ones-positive}
 use Rattle.account.proofs.Laws.{kept-add}

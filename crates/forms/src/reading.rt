@@ -1,5 +1,5 @@
 // The calls that read a record: `site`, `minute` and `class`.
-use forms::put;
+use crate::put;
 use minute::Gas;
 use minute::Minute;
 use minute::MinuteRead;
@@ -39,7 +39,7 @@ fn put_fields(out: &mut [u8], at: usize, site: Site) -> usize {
     put_days(out, at, site)
 }
 
-pub(crate) fn site(record: &[u8], out: &mut [u8], at: usize) -> usize {
+pub fn site(record: &[u8], out: &mut [u8], at: usize) -> usize {
     match Site::read(record) {
         SiteRead::Fields(site) => put_fields(out, at, site),
         SiteRead::Refused(refusal) => put::only_refused(out, at, refusal),
@@ -82,7 +82,7 @@ fn put_minute(out: &mut [u8], at: usize, minute: Minute) -> usize {
     put_exhaust(out, at, minute.exhaust)
 }
 
-pub(crate) fn minute(record: &[u8], out: &mut [u8], at: usize) -> usize {
+pub fn minute(record: &[u8], out: &mut [u8], at: usize) -> usize {
     match Minute::read(record) {
         MinuteRead::Fields(minute) => put_minute(out, at, minute),
         MinuteRead::Refused(refusal) => put::only_refused(out, at, refusal),
@@ -97,7 +97,7 @@ fn put_class(out: &mut [u8], at: usize, class: Class) -> usize {
     }
 }
 
-pub(crate) fn class(record: &[u8], out: &mut [u8], at: usize) -> usize {
+pub fn class(record: &[u8], out: &mut [u8], at: usize) -> usize {
     match Site::read(record) {
         SiteRead::Fields(site) => put_class(out, at, rules::class_of(site)),
         SiteRead::Refused(refusal) => put::only_refused(out, at, refusal),
