@@ -1,21 +1,29 @@
 -- The promises of Promises.antt.
-use mathlib.Core.Path.{_≡_, refl, sym, subst}
+use mathlib.Core.Path.{_≡_, refl, sym, ap, subst}
 use mathlib.Core.List.{List, _++_}
+use Prim.Native.Nat.{ℕ}
 use Rattle.refusals.specs.Tables.{Line, firstOf, after}
 use Rattle.refusals.specs.declared.verdict.Verdict.{Verdict}
 use Rattle.refusals.specs.declared.verdict.Verdict.the-variants.{Fine, Refuse}
 use Rattle.refusals.proofs.Tables.{joined}
+use Rattle.records.specs.House.{answered}
 use Rattle.site.specs.Rules.{siteLines}
 use Rattle.site.specs.declared.Site.{Site}
 use Rattle.minute.specs.Record.{minuteOf}
 use Rattle.minute.specs.Rules.{minuteLines}
 use Rattle.tool06.specs.Judged.{oxygenLines}
-use Rattle.tool06.proofs.Sums.{demand-three as of-any-minutes}
-use Rattle.account.specs.Adding.{isFull, notNext, recordLines, addLines, addTo}
+use Rattle.tool06.specs.Bounds.{figuresOf}
+use Rattle.tool06.specs.Tool.{Masses, Positive, by-equation-7}
+use Rattle.tool06.specs.declared.figures.Judged.the-variants.{Accepted, Refused}
+use Rattle.tool06.proofs.Kept.{equation-seven}
+use Rattle.tool06.proofs.Sums.{demand-three as of-any-minutes, masses-cancel}
+use Rattle.account.specs.Adding.{isFull, notNext, entry, recordLines, addLines, answer, addTo}
 use Rattle.account.specs.Closing.{closing}
 use Rattle.account.specs.Opening.{fresh, noSite}
+use Rattle.account.specs.declared.Account.{Account}
 use Rattle.account.proofs.Accepted.{taken}
-use Rattle.history.specs.Promises.{Histories, OpenedStays, DemandThree, RefusedStays, AddsInOrder, RefusedOpening}
+use Rattle.history.specs.History.{at-first, then, add, check-run, close, chart, co2e}
+use Rattle.history.specs.Promises.{Histories, OpenedStays, ByAnyMasses, DemandThree, DemandThreeBySeven, RefusedStays, AddsInOrder, RefusedOpening}
 use Rattle.history.proofs.Holds.{holds}
 use Rattle.history.proofs.Opening.{site-fine, listed, as-opened, nothing-taken, not-opened}
 use Rattle.history.proofs.Places.{all-accepted, in-places}
@@ -33,6 +41,31 @@ demand-three m pos s days a es reached =
     let h = holds m pos s days a es reached in
     rw (h .gas-is, h .fed-is, h .emitted-is, h .destroyed-is)
     (of-any-minutes m pos es (all-accepted s days 0 es (in-places m pos s days a es reached)))
+
+-- adding gives the same by any positive masses
+same-answer : (m m' : Masses) → Positive m → Positive m' → (a : Account) (bytes : List ℕ) → answer m a bytes ≡ answer m' a bytes
+unfolding answer
+same-answer m m' pos pos' a bytes = by-verdict (firstOf (addLines a bytes)) refl
+  where
+    by-verdict : (v : Verdict) → firstOf (addLines a bytes) ≡ v → answered Accepted Refused (figuresOf m (entry a bytes)) v ≡ answered Accepted Refused (figuresOf m' (entry a bytes)) v
+    by-verdict Fine fine =
+        ap Accepted (masses-cancel m m' pos pos' (entry a bytes) (taken m a bytes (figuresOf m (entry a bytes)) (rw fine refl) .entry-accepted) .2)
+    by-verdict (Refuse r) refused = refl
+
+pub by-any-masses : ByAnyMasses
+unfolding addTo
+by-any-masses m pos s days a es at-first m' pos' = at-first
+by-any-masses m pos s days a es (then {a = b} {es = fs} r (add bytes)) m' pos' =
+    rw (same-answer m m' pos pos' b bytes) (then (by-any-masses m pos s days b fs r m' pos') (add bytes))
+by-any-masses m pos s days a es (then {a = b} {es = fs} r (check-run run)) m' pos' = then (by-any-masses m pos s days b fs r m' pos') (check-run run)
+by-any-masses m pos s days a es (then {a = b} {es = fs} r close) m' pos' = then (by-any-masses m pos s days b fs r m' pos') close
+by-any-masses m pos s days a es (then {a = b} {es = fs} r chart) m' pos' = then (by-any-masses m pos s days b fs r m' pos') chart
+by-any-masses m pos s days a es (then {a = b} {es = fs} r co2e) m' pos' = then (by-any-masses m pos s days b fs r m' pos') co2e
+
+pub demand-three-by-seven : DemandThreeBySeven
+demand-three-by-seven m pos s days a es reached MM each =
+    let pos7 = equation-seven m pos MM each in
+    demand-three (by-equation-7 m MM) pos7 s days a es (by-any-masses m pos s days a es reached (by-equation-7 m MM) pos7)
 
 pub refused-stays : RefusedStays
 unfolding addTo

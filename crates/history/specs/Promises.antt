@@ -5,6 +5,7 @@ use Prim.Native.Nat.{ℕ, suc, _*_, _/_, _<_}
 use lib.Dec.{eqb}
 use lib.IntN.{ℤ}
 use lib.ListN.{length, getD}
+use Rattle.exact.specs.Fractions.{Frac}
 use Rattle.refusals.specs.Tables.{firstOf}
 use Rattle.refusals.specs.declared.refusal.Refusal.{Refusal}
 use Rattle.refusals.specs.declared.refusal.Refusal.the-variants.{Incomplete}
@@ -15,7 +16,7 @@ use Rattle.minute.specs.Rules.{minuteLines}
 use Rattle.maintenance.specs.Days.{inTime, listedDays}
 use Rattle.tool06.specs.Bounds.{Bounds, Entry, IsAccepted, figuresOf, emittedOf, destroyedOf, oneIf, gasOf, total, exactTotal}
 use Rattle.tool06.specs.Judged.{oxygenLines}
-use Rattle.tool06.specs.Tool.{Masses, Positive}
+use Rattle.tool06.specs.Tool.{Each, Masses, Positive, AllPositive, by-equation-7}
 use Rattle.tool06.specs.declared.figures.Figures.{Figures}
 use Rattle.tool06.specs.declared.figures.Judged.the-variants.{Accepted, Refused}
 use Rattle.account.specs.Adding.{notNext, recordLines, addLines, answer, addTo}
@@ -66,10 +67,22 @@ OpenedStays = OfEvery (λ m s days a es. firstOf (openLines s days) ≡ Fine →
 abbrev pub EveryKept : Type 0
 EveryKept = OfEvery (λ m s days a es. Kept a)
 
--- demand 3: "For any calls on an account, beside the tool's own equations as exact fractions, for any positive molecular mass"
+-- the account and its minutes are the same by any other positive masses
+abbrev pub ByAnyMasses : Type 0
+ByAnyMasses = OfEvery (λ m s days a es. (m' : Masses) → Positive m' → Reached m' s days a es)
+
+-- the sums beside the exact sums with these masses
+abbrev pub BesideTheTool : Masses → Account → List Entry → Type 0
+BesideTheTool m a es =
+    Bounds (a .gas) (a .fed) (a .emitted) (a .destroyed) (exactTotal (emittedOf m) es) (exactTotal (destroyedOf m) es)
+
+-- demand 3: "For any calls on an account, beside the tool's own equations as exact fractions, for any positive molecular mass", any for each minute
 abbrev pub DemandThree : Type 0
-DemandThree = OfEvery (λ m s days a es.
-    Bounds (a .gas) (a .fed) (a .emitted) (a .destroyed) (exactTotal (emittedOf m) es) (exactTotal (destroyedOf m) es))
+DemandThree = OfEvery (λ m s days a es. BesideTheTool m a es)
+
+-- the same with the tool's own: that of each minute's gas, by equation (7)
+abbrev pub DemandThreeBySeven : Type 0
+DemandThreeBySeven = OfEvery (λ m s days a es. (MM : Each Frac) → AllPositive MM → BesideTheTool (by-equation-7 m MM) a es)
 
 -- "A refusal returns its number and nothing else; the account .. stay[s]"
 abbrev pub RefusedStays : Type 0

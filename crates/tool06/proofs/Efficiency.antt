@@ -119,7 +119,7 @@ module _ (m : Masses) (pos : Positive m) {s : Site} {n : Minute} (f : Facts s n)
       let o = f .oxygen in
       let k = measurable f gas measured present .weight in
       rw (fed-is n) (part (F-CH4-EG m n) (five-LKf n) (2 * D n) (F-RG-ng n) (omega arith) F-pos
-      (short-whole m pos n (D n) (omega arith) (omega arith) (K (n .gas)) (omega arith)))
+      (short-whole m n (pos n (f .some-methane gas)) (D n) (omega arith) (omega arith) (K (n .gas)) (omega arith)))
 
   measured-loses : isMeasured s ≡ true → exhaustPresent n ≡ true → Loses (F-RG-ng n) (lowTenth (classOf s)) (five-LKf n) (2 * D n) (measured s n m)
   unfolding η-calc

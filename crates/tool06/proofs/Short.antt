@@ -10,7 +10,7 @@ use Rattle.exact.proofs.Order.{Sign, sign-of, inv-pos, inv-positive, ⊗-pos, w
 use Rattle.exact.proofs.Ratios.{⊘-unique, inv-⊗, ratio-≡, ratio-⊗, ratio-⊘, ratio-plus-one, one-minus, minus-≡, minus-whole}
 use Rattle.minute.specs.declared.gas.Gas.{Gas}
 use Rattle.minute.specs.declared.Minute.{Minute}
-use Rattle.tool06.specs.Tool.{Each, Masses, Positive, NA-C, NA-H, NA-O, NA-N, v, Σ-v, AM×NA, v-O2-air, MF, MF-C, MF-H, MF-O, MF-N, F-O2-RG, v-O2-EG, n-O2-EG, Q-CO2-EG, Q-N2-EG, Q-O2-EG, Q-EG, V-RG, ρ-RG, M-RG, V-EG, F-CH4-EG}
+use Rattle.tool06.specs.Tool.{Each, Masses, PositiveIn, NA-C, NA-H, NA-O, NA-N, v, Σ-v, AM×NA, v-O2-air, MF, MF-C, MF-H, MF-O, MF-N, F-O2-RG, v-O2-EG, n-O2-EG, Q-CO2-EG, Q-N2-EG, Q-O2-EG, Q-EG, V-RG, ρ-RG, M-RG, V-EG, F-CH4-EG}
 use Rattle.tool06.specs.Short.{K-plus, K-minus, S-plus, S-minus}
 
 -- the atoms of an element in a million molecules
@@ -39,15 +39,15 @@ unit MM = inv (whole 1000000) ⊗ (inv MM ⊗ inv (whole 84))
 
 -- MF / (k AM), where 84 is j k
 module _ (m : Masses) (n : Minute) (AM : Frac) (NA : Each ℕ) (pos : whole 0 ≺ AM) where
-  MF-over : (k j : ℕ) → 0 < k → 84 ≡ j * k → MF m n AM NA ⊘ (whole k ⊗ AM) ≡ whole (j * count (n .gas) NA) ⊗ unit (m .MM-RG)
+  MF-over : (k j : ℕ) → 0 < k → 84 ≡ j * k → MF m n AM NA ⊘ (whole k ⊗ AM) ≡ whole (j * count (n .gas) NA) ⊗ unit (m .MM-RG n)
   unfolding _⊘_ MF
   MF-over k j hk e =
-      ⊘-unique (MF m n AM NA) (whole k ⊗ AM) (whole (j * count (n .gas) NA) ⊗ unit (m .MM-RG)) (⊗-pos (whole k) AM (whole-pos k hk) pos)
+      ⊘-unique (MF m n AM NA) (whole k ⊗ AM) (whole (j * count (n .gas) NA) ⊗ unit (m .MM-RG n)) (⊗-pos (whole k) AM (whole-pos k hk) pos)
       (rw (atoms (n .gas) AM NA, ← whole-⊗ j (count (n .gas) NA))
-      (let a : whole j ⊗ whole (count (n .gas) NA) ⊗ unit (m .MM-RG) ⊗ (whole k ⊗ AM) ≡ whole k ⊗ (whole j ⊗ inv (whole 84)) ⊗ (whole (count (n .gas) NA) ⊗ (AM ⊗ inv (whole 1000000)) ⊗ inv (m .MM-RG)) = simp mul-ac in
+      (let a : whole j ⊗ whole (count (n .gas) NA) ⊗ unit (m .MM-RG n) ⊗ (whole k ⊗ AM) ≡ whole k ⊗ (whole j ⊗ inv (whole 84)) ⊗ (whole (count (n .gas) NA) ⊗ (AM ⊗ inv (whole 1000000)) ⊗ inv (m .MM-RG n)) = simp mul-ac in
       a ∙ rw (← inv-split j k 84 hk (omega arith) e, inv-positive (whole k) (whole-pos k hk), one-⊗)))
 
-  MF-over-one : MF m n AM NA ⊘ AM ≡ whole (84 * count (n .gas) NA) ⊗ unit (m .MM-RG)
+  MF-over-one : MF m n AM NA ⊘ AM ≡ whole (84 * count (n .gas) NA) ⊗ unit (m .MM-RG n)
   MF-over-one = ap (λ (z : Frac). MF m n AM NA ⊘ z) (sym (one-⊗ AM)) ∙ MF-over 1 84 (omega arith) refl
 
 -- equations (8) to (12), as algebra
@@ -96,24 +96,24 @@ F-plus g = 4 * count g NA-C + count g NA-H
 abbrev F-minus : Gas → ℕ
 F-minus g = 2 * count g NA-O
 
-module _ (m : Masses) (pos : Positive m) (n : Minute) where
-  C-is : MF-C m n ⊘ m .AM-C ≡ whole (84 * count (n .gas) NA-C) ⊗ unit (m .MM-RG)
+module _ (m : Masses) (n : Minute) (pos : PositiveIn m n) where
+  C-is : MF-C m n ⊘ m .AM-C ≡ whole (84 * count (n .gas) NA-C) ⊗ unit (m .MM-RG n)
   unfolding MF-C
   C-is = MF-over-one m n (m .AM-C) NA-C (pos .C-positive)
 
-  N-is : MF-N m n ⊘ (whole 2 ⊗ m .AM-N) ≡ whole (42 * count (n .gas) NA-N) ⊗ unit (m .MM-RG)
+  N-is : MF-N m n ⊘ (whole 2 ⊗ m .AM-N) ≡ whole (42 * count (n .gas) NA-N) ⊗ unit (m .MM-RG n)
   unfolding MF-N
   N-is = MF-over m n (m .AM-N) NA-N (pos .N-positive) 2 42 (omega arith) refl
 
-  H-is : MF-H m n ⊘ (whole 4 ⊗ m .AM-H) ≡ whole (21 * count (n .gas) NA-H) ⊗ unit (m .MM-RG)
+  H-is : MF-H m n ⊘ (whole 4 ⊗ m .AM-H) ≡ whole (21 * count (n .gas) NA-H) ⊗ unit (m .MM-RG n)
   unfolding MF-H
   H-is = MF-over m n (m .AM-H) NA-H (pos .H-positive) 4 21 (omega arith) refl
 
-  O-is : MF-O m n ⊘ (whole 2 ⊗ m .AM-O) ≡ whole (42 * count (n .gas) NA-O) ⊗ unit (m .MM-RG)
+  O-is : MF-O m n ⊘ (whole 2 ⊗ m .AM-O) ≡ whole (42 * count (n .gas) NA-O) ⊗ unit (m .MM-RG n)
   unfolding MF-O
   O-is = MF-over m n (m .AM-O) NA-O (pos .O-positive) 2 42 (omega arith) refl
 
-  F-is : F-O2-RG m n ≡ whole (21 * F-plus (n .gas)) ⊗ unit (m .MM-RG) ⊖ whole (21 * F-minus (n .gas)) ⊗ unit (m .MM-RG)
+  F-is : F-O2-RG m n ≡ whole (21 * F-plus (n .gas)) ⊗ unit (m .MM-RG n) ⊖ whole (21 * F-minus (n .gas)) ⊗ unit (m .MM-RG n)
   unfolding F-O2-RG
   F-is =
       let e1 : 84 * count (n .gas) NA-C + 21 * count (n .gas) NA-H ≡ 21 * F-plus (n .gas) = omega arith in
@@ -124,10 +124,10 @@ module _ (m : Masses) (pos : Positive m) (n : Minute) where
   bracket : Frac
   bracket = MF-C m n ⊘ m .AM-C ⊕ MF-N m n ⊘ (whole 2 ⊗ m .AM-N) ⊕ whole 79 ⊘ whole 21 ⊗ F-O2-RG m n
 
-  bracket-is : bracket ≡ (whole (K-plus (n .gas)) ⊖ whole (K-minus (n .gas))) ⊗ unit (m .MM-RG)
+  bracket-is : bracket ≡ (whole (K-plus (n .gas)) ⊖ whole (K-minus (n .gas))) ⊗ unit (m .MM-RG n)
   unfolding bracket
   bracket-is = rw (C-is, N-is, F-is, ⊗-⊖, seventy-nine, seventy-nine (F-minus (n .gas)), gather, ⊕-⊖, gather, ← ⊖-⊗)
-      (ap (λ (z : Frac). z ⊗ unit (m .MM-RG)) (minus-≡ _ _ (K-plus (n .gas)) (K-minus (n .gas)) (omega arith)))
+      (ap (λ (z : Frac). z ⊗ unit (m .MM-RG n)) (minus-≡ _ _ (K-plus (n .gas)) (K-minus (n .gas)) (omega arith)))
 
   module _ (D : ℕ) (hD : 0 < D) (e : D + n .exhaust .oxygen ≡ 210000) where
     Q-is : Q-EG m n ≡ m .VM-ref ⊗ bracket ⊗ (whole 210000 ⊘ whole D)
@@ -139,23 +139,23 @@ module _ (m : Masses) (pos : Positive m) (n : Minute) where
     unfolding F-CH4-EG V-EG M-RG ρ-RG V-RG _⊘_
     short-signed =
         rw (Q-is, bracket-is)
-        (regroup (m .VM-ref) _ (m .MM-RG) _ _ _ _ _ _ _ _ _ _ _ _
-        ∙ rw (inv-positive (m .VM-ref) (pos .VM-positive), inv-positive (m .MM-RG) (pos .MM-positive), one-⊗, one-⊗, one-⊗, constants, ← whole-⊗ 2 D, inv-⊗ (whole 2) (whole D) (whole-pos 2 (omega arith)) (whole-pos D hD))
+        (regroup (m .VM-ref) _ (m .MM-RG n) _ _ _ _ _ _ _ _ _ _ _ _
+        ∙ rw (inv-positive (m .VM-ref) (pos .VM-positive), inv-positive (m .MM-RG n) (pos .MM-positive), one-⊗, one-⊗, one-⊗, constants, ← whole-⊗ 2 D, inv-⊗ (whole 2) (whole D) (whole-pos 2 (omega arith)) (whole-pos D hD))
         (simp mul-ac))
 
     pub short-whole : (K : ℕ) → K-plus (n .gas) ≡ K + K-minus (n .gas) → F-CH4-EG m n ⊗ whole 1000000000000 ≡ whole (5 * n .litres * K * n .exhaust .methane) ⊘ whole (2 * D)
     short-whole K k = short-signed ∙ rw (minus-whole _ _ K k, whole-⊗, whole-⊗, whole-⊗)
 
-  unit-pos : whole 0 ≺ unit (m .MM-RG)
+  unit-pos : whole 0 ≺ unit (m .MM-RG n)
   unit-pos =
       ⊗-pos _ _ (inv-pos (whole 1000000) (whole-pos 1000000 (omega arith)))
-      (⊗-pos _ _ (inv-pos (m .MM-RG) (pos .MM-positive)) (inv-pos (whole 84) (whole-pos 84 (omega arith))))
+      (⊗-pos _ _ (inv-pos (m .MM-RG n) (pos .MM-positive)) (inv-pos (whole 84) (whole-pos 84 (omega arith))))
 
   -- the sign of F is that of S
   pub F-sign : Sign (S-plus (n .gas)) (S-minus (n .gas)) (F-O2-RG m n)
   F-sign =
       let g = n .gas in
-      let s : Sign (21 * F-plus g) (21 * F-minus g) ((whole (21 * F-plus g) ⊖ whole (21 * F-minus g)) ⊗ unit (m .MM-RG)) = sign-of (21 * F-plus g) (21 * F-minus g) (unit (m .MM-RG)) unit-pos in
+      let s : Sign (21 * F-plus g) (21 * F-minus g) ((whole (21 * F-plus g) ⊖ whole (21 * F-minus g)) ⊗ unit (m .MM-RG n)) = sign-of (21 * F-plus g) (21 * F-minus g) (unit (m .MM-RG n)) unit-pos in
       rw (F-is, ← ⊖-⊗) (
         (λ h. let l = s .0 .0 h in omega arith, λ h. s .0 .1 (omega arith)),
         (λ h. let l = s .1 .0 h in omega arith, λ h. s .1 .1 (omega arith)),

@@ -1,6 +1,6 @@
 -- Document 002, Step 1 and Step 2, Option B.2: equations (2) to (14), one definition each, under the tool's names.
 -- Masses are in kg, volumes in m3 on a dry basis at reference conditions, and all numbers are exact fractions.
-use Prim.Native.Nat.{ℕ}
+use Prim.Native.Nat.{ℕ, _<_}
 use Rattle.exact.specs.Fractions.{Frac, _⊕_, _⊖_, _⊗_, _⊘_, whole, _≺_}
 use Rattle.minute.specs.declared.gas.Gas.{Gas}
 use Rattle.minute.specs.declared.Minute.{Minute}
@@ -16,23 +16,38 @@ pub record Each (A : Type 0) : Type 0 where
   pub NH3 : A
   pub N2 : A
 
--- Table 1: the atomic masses and the molecular mass of the residual gas, kg/kmol, and the molar volume, m3/kmol
+-- Table 1: the atomic masses, kg/kmol, and the molar volume, m3/kmol; and MM_RG,m, the molecular mass of the residual gas in each minute m, kg/kmol
 pub record Masses : Type 0 where
   pub AM-C : Frac
   pub AM-H : Frac
   pub AM-O : Frac
   pub AM-N : Frac
-  pub MM-RG : Frac
+  pub MM-RG : Minute → Frac
   pub VM-ref : Frac
 
--- "MM any positive molecular mass", and the others too
-pub record Positive (m : Masses) : Type 0 where
+-- "MM any positive molecular mass" in the minute n, and the others too
+pub record PositiveIn (m : Masses) (n : Minute) : Type 0 where
   pub C-positive : whole 0 ≺ m .AM-C
   pub H-positive : whole 0 ≺ m .AM-H
   pub O-positive : whole 0 ≺ m .AM-O
   pub N-positive : whole 0 ≺ m .AM-N
-  pub MM-positive : whole 0 ≺ m .MM-RG
+  pub MM-positive : whole 0 ≺ m .MM-RG n
   pub VM-positive : whole 0 ≺ m .VM-ref
+
+-- in every minute whose gas has methane: a minute with gas and no methane is refused, and one without gas needs no mass
+abbrev pub Positive : Masses → Type 0
+Positive m = (n : Minute) → 0 < n .gas .ch4 → PositiveIn m n
+
+-- something positive for each component
+pub record AllPositive (x : Each Frac) : Type 0 where
+  pub CH4-positive : whole 0 ≺ x .CH4
+  pub CO-positive : whole 0 ≺ x .CO
+  pub CO2-positive : whole 0 ≺ x .CO2
+  pub O2-positive : whole 0 ≺ x .O2
+  pub H2-positive : whole 0 ≺ x .H2
+  pub H2S-positive : whole 0 ≺ x .H2S
+  pub NH3-positive : whole 0 ≺ x .NH3
+  pub N2-positive : whole 0 ≺ x .N2
 
 -- NA: "Number of atoms of element j in component i"
 abbrev pub NA-C : Each ℕ
@@ -96,10 +111,21 @@ v-O2-air = whole 21 ⊘ whole 100
 unfoldable pub MM-RG-of : Each Frac → Gas → Frac
 MM-RG-of MM g = Σ-v g MM
 
+-- the molecular mass in each minute by equation (7) of its own gas, with the atomic masses and the molar volume of m
+abbrev pub by-equation-7 : Masses → Each Frac → Masses
+by-equation-7 m MM = record {
+  AM-C = m .AM-C;
+  AM-H = m .AM-H;
+  AM-O = m .AM-O;
+  AM-N = m .AM-N;
+  MM-RG = λ n. MM-RG-of MM (n .gas);
+  VM-ref = m .VM-ref;
+}
+
 module _ (m : Masses) (n : Minute) where
   -- (14) the mass fraction of an element
   unfoldable pub MF : Frac → Each ℕ → Frac
-  MF AM NA = Σ-v (n .gas) (AM×NA AM NA) ⊘ m .MM-RG
+  MF AM NA = Σ-v (n .gas) (AM×NA AM NA) ⊘ m .MM-RG n
 
   unfoldable pub MF-C : Frac
   MF-C = MF (m .AM-C) NA-C
@@ -144,7 +170,7 @@ module _ (m : Masses) (n : Minute) where
 
   -- (6) document 01 has MM / VMref for the tool's P_ref / (R_u / MM × T_ref)
   unfoldable pub ρ-RG : Frac
-  ρ-RG = m .MM-RG ⊘ m .VM-ref
+  ρ-RG = m .MM-RG n ⊘ m .VM-ref
 
   -- (5)
   unfoldable pub M-RG : Frac
