@@ -1,5 +1,5 @@
 -- The order of exact fractions.
-use mathlib.Core.Path.{_≡_, refl, sym, ap, subst}
+use mathlib.Core.Path.{_≡_, refl, sym, ap, subst, _∙_}
 use mathlib.Core.HLevel.{Π-prop, ×-prop}
 use mathlib.Core.Logic.{_↔_, ↔-prop}
 use native.Mathlib.Bridge.{le-prop}
@@ -13,7 +13,7 @@ use lib.Dec.{T, T-prop, T-not, not-T, leb, leb→le, le→leb}
 use Rattle.exact.specs.Parts.{Parts, Same, parts-le, parts-whole, parts-add, parts-mul, parts-neg, inv-by, parts-inv}
 use Rattle.exact.specs.PartsLaws.{PartsLe, times}
 use Rattle.exact.specs.Fractions.{Frac, le-test, _≼_, _≺_, _⊕_, _⊖_, _⊗_, neg, inv, whole}
-use Rattle.exact.proofs.Fractions.{⊕-comm}
+use Rattle.exact.proofs.Fractions.{⊕-comm, ⊕-assoc, ⊕-zero, ⊕-neg, ⊖-⊗}
 
 not-leb : (m n : ℕ) → T (not (leb m n)) → n < m
 not-leb m n t = let h : ¬ (m ≤ n) = λ l. T-not (leb m n) t (le→leb m n l) in omega arith
@@ -199,3 +199,31 @@ equal-means-same a b p =
 
 pub whole-pos : (n : ℕ) → 0 < n → whole 0 ≺ whole n
 whole-pos n h = whole-≺ 0 n .1 h
+
+-- a factor that is not negative keeps the order, and a positive one the strict order: by the sign of the difference
+diff : (x y : Frac) → x ≼ y → whole 0 ≼ y ⊖ x
+unfolding _⊖_
+diff x y h = subst (λ (z : Frac). z ≼ y ⊕ neg x) (⊕-neg x) (⊕-mono-left x y (neg x) h)
+
+sdiff : (x y : Frac) → x ≺ y → whole 0 ≺ y ⊖ x
+unfolding _⊖_
+sdiff x y h = subst (λ (z : Frac). z ≺ y ⊕ neg x) (⊕-neg x) (⊕-smono-left x y (neg x) h)
+
+pub zero-⊕ : (x : Frac) → whole 0 ⊕ x ≡ x
+zero-⊕ x = ⊕-comm (whole 0) x ∙ ⊕-zero x
+
+pub ⊖-⊕ : (x y : Frac) → x ⊖ y ⊕ y ≡ x
+unfolding _⊖_
+⊖-⊕ x y = rw (⊕-assoc, ⊕-comm (neg y) y, ⊕-neg, ⊕-zero)
+
+undiff : (x y : Frac) → whole 0 ≼ y ⊖ x → x ≼ y
+undiff x y h = rw (zero-⊕, ⊖-⊕) at (⊕-mono-left (whole 0) (y ⊖ x) x h)
+
+sundiff : (x y : Frac) → whole 0 ≺ y ⊖ x → x ≺ y
+sundiff x y h = rw (zero-⊕, ⊖-⊕) at (⊕-smono-left (whole 0) (y ⊖ x) x h)
+
+pub ⊗-mono : (x y t : Frac) → whole 0 ≼ t → x ≼ y → x ⊗ t ≼ y ⊗ t
+⊗-mono x y t ht h = undiff (x ⊗ t) (y ⊗ t) (rw (← ⊖-⊗ y x t) (⊗-nonneg (y ⊖ x) t (diff x y h) ht))
+
+pub ⊗-smono : (x y t : Frac) → whole 0 ≺ t → x ≺ y → x ⊗ t ≺ y ⊗ t
+⊗-smono x y t ht h = sundiff (x ⊗ t) (y ⊗ t) (rw (← ⊖-⊗ y x t) (⊗-pos (y ⊖ x) t (sdiff x y h) ht))
