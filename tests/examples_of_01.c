@@ -10,7 +10,7 @@ typedef uint8_t minute_call(const uint8_t *, size_t, const uint8_t *, size_t, ui
 
 enum gas { GAS_G, ONE_LITRE, S_IS_ZERO, S_IS_NEGATIVE };
 
-/* Height on a diameter of 1,000; unlit, or lit and in order; the exhaust of a measured minute. */
+/* Height on a diameter of 1,000; unlit or lit, inside the specification; the exhaust readings, which every line has. */
 struct example {
     const char *line;
     uint8_t method;
@@ -25,13 +25,13 @@ struct example {
 enum { DEF = DEFAULT_METHOD, MEA = MEASURED_METHOD };
 
 static const struct example examples[] = {
-    {"open, flame", DEF, 0, GAS_G, 1, 0, 0, 0, 2, 429600, 214800, 214800},
-    {"no flame", DEF, 0, GAS_G, 0, 0, 0, 0, 1, 429600, 429600, 0},
-    {"no flame, tall", DEF, 10001, GAS_G, 0, 0, 0, 0, 1, 429600, 429600, 0},
-    {"tall default", DEF, 10001, GAS_G, 1, 0, 0, 0, 3, 429600, 42960, 386640},
-    {"low default", DEF, 2001, GAS_G, 1, 0, 0, 0, 3, 429600, 85920, 343680},
-    {"1 litre, open", DEF, 0, ONE_LITRE, 1, 0, 0, 0, 2, 359, 180, 179},
-    {"1 litre, tall default", DEF, 10001, ONE_LITRE, 1, 0, 0, 0, 3, 359, 36, 322},
+    {"open, flame", DEF, 0, GAS_G, 1, 90000, 100, 0, 2, 429600, 214800, 214800},
+    {"no flame", DEF, 0, GAS_G, 0, 90000, 100, 0, 1, 429600, 429600, 0},
+    {"no flame, tall", DEF, 10001, GAS_G, 0, 90000, 100, 0, 1, 429600, 429600, 0},
+    {"tall default", DEF, 10001, GAS_G, 1, 90000, 100, 0, 3, 429600, 42960, 386640},
+    {"low default", DEF, 2001, GAS_G, 1, 90000, 100, 0, 3, 429600, 85920, 343680},
+    {"1 litre, open", DEF, 0, ONE_LITRE, 1, 90000, 100, 0, 2, 359, 180, 179},
+    {"1 litre, tall default", DEF, 10001, ONE_LITRE, 1, 90000, 100, 0, 3, 359, 36, 322},
     {"measured tall, f 100", MEA, 10001, GAS_G, 1, 90000, 100, 0, 9, 429600, 965, 428635},
     {"measured low, f 100", MEA, 2001, GAS_G, 1, 90000, 100, 0, 9, 429600, 43925, 385675},
     {"measured tall, f 50,000", MEA, 10001, GAS_G, 1, 90000, 50000, 0, 9, 429600, 429600, 0},
@@ -39,10 +39,10 @@ static const struct example examples[] = {
     {"measured low, f 40,000", MEA, 2001, GAS_G, 1, 90000, 40000, 0, 9, 429600, 428960, 640},
     {"S is 0", MEA, 10001, S_IS_ZERO, 1, 90000, 0, 0, 9, 71600, 0, 71600},
     {"O2 200,001", MEA, 10001, S_IS_NEGATIVE, 1, 90000, 0, OXYGEN, 0, 0, 0, 0},
-    {"height 2,000: open", DEF, 2000, GAS_G, 1, 0, 0, 0, 2, 429600, 214800, 214800},
-    {"height 2,001: low", DEF, 2001, GAS_G, 1, 0, 0, 0, 3, 429600, 85920, 343680},
-    {"height 10,000: low", DEF, 10000, GAS_G, 1, 0, 0, 0, 3, 429600, 85920, 343680},
-    {"height 10,001: tall", DEF, 10001, GAS_G, 1, 0, 0, 0, 3, 429600, 42960, 386640},
+    {"height 2,000: open", DEF, 2000, GAS_G, 1, 90000, 100, 0, 2, 429600, 214800, 214800},
+    {"height 2,001: low", DEF, 2001, GAS_G, 1, 90000, 100, 0, 3, 429600, 85920, 343680},
+    {"height 10,000: low", DEF, 10000, GAS_G, 1, 90000, 100, 0, 3, 429600, 85920, 343680},
+    {"height 10,001: tall", DEF, 10001, GAS_G, 1, 90000, 100, 0, 3, 429600, 42960, 386640},
     {"exhaust oxygen 209,999", MEA, 10001, GAS_G, 1, 209999, 0, 0, 9, 429600, 0, 429600},
     {"exhaust oxygen 210,000", MEA, 10001, GAS_G, 1, 210000, 0, EXHAUST, 0, 0, 0, 0},
 };
@@ -67,9 +67,8 @@ static void fill_gas(enum gas gas, struct minute *minute)
 
 static struct minute minute_of(const struct example *example)
 {
-    struct minute minute = {.flags = TEMPERATURE_PRESENT, .temperature = 9000};
+    struct minute minute = {.flags = TEMPERATURE_PRESENT | EXHAUST_PRESENT, .temperature = 9000};
     minute.flags |= example->lit ? FLAME_SEEN : 0;
-    minute.flags |= example->method == MEASURED_METHOD ? EXHAUST_PRESENT : 0;
     minute.exhaust_oxygen = example->oxygen;
     minute.exhaust_methane = example->methane;
     fill_gas(example->gas, &minute);

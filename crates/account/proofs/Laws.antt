@@ -1,34 +1,32 @@
 -- What the calls keep of every account.
-use Prim.Native.Nat.{ℕ, zero, suc, _+_, _≤_, _<_}
-use mathlib.Core.Path.{_≡_, refl, sym, _∙_}
+use Prim.Native.Nat.{ℕ, zero, suc, _+_, _<_}
+use mathlib.Core.Path.{_≡_, refl, sym, ap, _∙_}
 use mathlib.Core.Bool.{Bool, true, false, not}
-use mathlib.Core.List.{List, [], _∷_}
+use mathlib.Core.List.{List, _∷_}
 use native.Mathlib.Omega.{arith}
-use borrow.Author.Tests.{eqb-true, eqb-false, ltb-false}
-use lib.Dec.{ltb, eqb}
+use borrow.Author.Tests.{eqb-true, eqb-false}
+use lib.Dec.{eqb}
 use lib.IntN.{ℤ}
 use lib.ListN.{length, getD, set, length-set}
 use lib.Seq.{getD-set-same, getD-set-other}
-use Rattle.exact.proofs.Bools.{or-false}
-use Rattle.refusals.specs.Tables.{when, firstOf}
-use Rattle.refusals.specs.declared.refusal.Refusal.the-variants.{List as LIST}
-use Rattle.refusals.specs.declared.verdict.Verdict.{Verdict}
-use Rattle.refusals.specs.declared.verdict.Verdict.the-variants.{Fine, Refuse}
-use Rattle.refusals.proofs.Tables.{split, none}
-use Rattle.site.specs.Rules.{yearMinutes, siteLines}
+use Rattle.refusals.specs.Tables.{firstOf}
+use Rattle.refusals.specs.declared.verdict.Verdict.the-variants.{Fine}
+use Rattle.site.specs.Rules.{yearMinutes}
 use Rattle.site.specs.declared.Site.{Site}
-use Rattle.maintenance.specs.Days.{listWrong}
-use Rattle.maintenance.proofs.Laws.{kept-list}
 use Rattle.tool06.specs.Bounds.{oneIf}
 use Rattle.tool06.specs.Tool.{Masses, Positive}
 use Rattle.tool06.specs.declared.figures.Figures.{Figures}
 use Rattle.tool06.specs.declared.figures.Judged.{Judged}
 use Rattle.tool06.specs.declared.figures.Judged.the-variants.{Accepted, Refused}
-use Rattle.account.specs.Adding.{oneMore, withMinute, after, answer, addTo}
-use Rattle.account.specs.Kept.{sum, Kept, Small}
-use Rattle.account.specs.Opening.{lastDay, openLines, fresh, noSite, accountBeside, opened}
+use Rattle.account.specs.Adding.{oneMore, withMinute, afterAnswer, answer, addTo}
+use Rattle.account.specs.Kept.{sum, Kept}
+use Rattle.account.specs.scaffold.Small.{Small}
+use Rattle.account.specs.Opening.{openLines, fresh, opened}
+use Rattle.account.specs.Promises.{OnlyOpened, RefusedStays}
 use Rattle.account.specs.declared.Account.{Account}
+use Rattle.account.specs.declared.open.Opened.{Opened}
 use Rattle.account.proofs.Accepted.{accepted}
+use Rattle.account.proofs.Opens.{opens-kept, list-is-kept, as-given, site-examined}
 
 -- one more under a rule: the count of that rule is one more, and the others are as they were
 pub count-more : (counts : List ℕ) (rule k : ℕ) → rule < length counts → getD (oneMore counts rule) k 0 ≡ getD counts k 0 + oneIf (eqb rule k)
@@ -53,8 +51,8 @@ unfolding withMinute
 kept-with {a} {f} kept small room =
     let there : f .rule < length (a .counts) = omega (arith, kept .ten-counts, small .rule-below) in
     record {
+      opens = kept .opens;
       minutes-within = omega arith;
-      gwp-within = kept .gwp-within;
       list-kept = kept .list-kept;
       ten-counts = length-set (a .counts) (f .rule) _ ∙ kept .ten-counts;
       counts-sum = omega (arith, kept .counts-sum, sum-set (a .counts) (f .rule) (getD (a .counts) (f .rule) 0 + 1) there);
@@ -69,8 +67,8 @@ pub kept-add : (m : Masses) → Positive m → {a : Account} → Kept a → (byt
 unfolding addTo
 kept-add m pos {a} kept bytes = by-answer (answer m a bytes) refl
   where
-    by-answer : (j : Judged) → answer m a bytes ≡ j → Kept (after a j)
-    by-answer (Accepted f) e = let told = accepted m pos a bytes f e in kept-with kept (told .0) (told .1)
+    by-answer : (j : Judged) → answer m a bytes ≡ j → Kept (afterAnswer a j)
+    by-answer (Accepted f) e = let told = accepted m pos a (site-examined kept) bytes f e in kept-with kept (told .0) (told .1)
     by-answer (Refused r) e = kept
 
 -- an accepted record is one minute more
@@ -78,12 +76,12 @@ pub minutes-on : (m : Masses) (a : Account) (bytes : List ℕ) (f : Figures) →
 unfolding addTo withMinute
 minutes-on m a bytes f e = rw e refl
 
-pub fresh-kept : (s : Site) (days : List ℤ) → s .gwp ≤ 100 → Kept (fresh s days)
+pub fresh-kept : (s : Site) (days : List ℤ) → firstOf (openLines s days) ≡ Fine → Kept (fresh s days)
 unfolding fresh
-fresh-kept s days gwp = record {
+fresh-kept s days fine = record {
+  opens = opens-kept s days fine;
   minutes-within = omega arith;
-  gwp-within = gwp;
-  list-kept = kept-list days;
+  list-kept = list-is-kept s days fine;
   ten-counts = refl;
   counts-sum = refl;
   gas-counted = refl;
@@ -92,16 +90,14 @@ fresh-kept s days gwp = record {
   destroyed-within = omega arith;
 }
 
--- opening examined the GWP
-gwp-most : (s : Site) → firstOf (siteLines s) ≡ Fine → s .gwp ≤ 100
-unfolding siteLines
-gwp-most s fine = ltb-false 100 (s .gwp) (or-false (ltb (s .gwp) 1) (ltb 100 (s .gwp)) (none (siteLines s) fine .1 .1 .0) .1)
+pub only-opened : OnlyOpened
+unfolding opened fresh
+only-opened s days = (λ k. as-given s days (k .list-kept) (k .opens), fresh-kept s days)
 
--- whatever the site and the list
-pub opened-kept : (s : Site) (days : List ℤ) → Kept (opened s days .account)
-unfolding opened openLines noSite
-opened-kept s days = by-verdict (firstOf (openLines s days)) refl
-  where
-    by-verdict : (v : Verdict) → firstOf (openLines s days) ≡ v → Kept (accountBeside s days v)
-    by-verdict Fine e = fresh-kept s days (gwp-most s (split (siteLines s) (when (listWrong days (lastDay (s .year))) LIST ∷ []) e .0))
-    by-verdict (Refuse r) e = fresh-kept noSite [] (omega arith)
+-- what opening gave is kept where it refused nothing
+pub opened-kept : (s : Site) (days : List ℤ) {o : Opened} → o ≡ opened s days → o .verdict ≡ Fine → Kept (o .account)
+opened-kept s days {o} is fine = rw is (only-opened s days .1 (ap (λ (x : Opened). x .verdict) (sym is) ∙ fine))
+
+pub refused-stays : RefusedStays
+unfolding addTo
+refused-stays m a bytes r e = rw e refl

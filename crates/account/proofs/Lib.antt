@@ -2,5 +2,6 @@ pub mod Accepted
 pub mod Counting
 pub mod Laws
 pub mod Lossless
+pub mod Opens
 pub mod Unique
 pub mod Within

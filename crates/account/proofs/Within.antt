@@ -12,6 +12,7 @@ use Rattle.tool06.specs.Bounds.{oneIf}
 use Rattle.account.specs.Closing.{co2e}
 use Rattle.account.specs.Kept.{sum, Kept}
 use Rattle.account.specs.declared.Account.{Account}
+use Rattle.account.proofs.Opens.{gwp-most, site-examined}
 
 pub year-within : (year : ℕ) → (525600 ≤ yearMinutes year) × (yearMinutes year ≤ 527040)
 year-within year = by-leap (eqb (year % 4) 0) refl
@@ -39,7 +40,7 @@ sum-within {a} k x h =
 
 -- below 2^53 mg
 pub gwp-times : {a : Account} → Kept a → (x : ℕ) → x ≤ a .gas * 71600000 → a .site .gwp * x ≤ 3773606400000000
-gwp-times {a} k x h = mul-within (a .site .gwp) x 100 37736064000000 (k .gwp-within) (sum-within k x h)
+gwp-times {a} k x h = mul-within (a .site .gwp) x 100 37736064000000 (gwp-most (a .site) (site-examined k)) (sum-within k x h)
 
 pub co2e-within : {a : Account} → Kept a → co2e a ≤ 3773606400000000
 unfolding co2e

@@ -29,18 +29,18 @@ abbrev pub notNext : Account → Minute → Bool
 notNext a n = not (eqb (n .number) (a .minutes))
 
 -- "in time on day d", d being the day of this minute of the year
-unfoldable pub in-time : Account → ℕ → Bool
-in-time a number = inTime (listedDays (a .maintenance)) (number / 1440) (a .site .days)
+unfoldable pub inTimeAt : Account → ℕ → Bool
+inTimeAt a number = inTime (listedDays (a .maintenance)) (number / 1440) (a .site .days)
 
 -- the minute of these bytes, as the account judges it
 abbrev pub entry : Account → List ℕ → Entry
-entry a b = record { site = a .site; minute = minuteOf b; inTime = in-time a (minuteOf b .number) }
+entry a b = record { site = a .site; minute = minuteOf b; inTime = inTimeAt a (minuteOf b .number) }
 
 -- 11, then 1 and 2
 abbrev pub recordLines : Account → List ℕ → List Line
 recordLines a b = when (isFull a) Full ∷ headLines 54 1 b
 
--- then 12 to 19; before them stand 3 to 9, which give nothing where opening was not refused
+-- then 12 to 19
 unfoldable pub addLines : Account → List ℕ → List Line
 addLines a b = recordLines a b ++ judgedLines (notNext a (minuteOf b)) (a .site) (minuteOf b)
 
@@ -70,9 +70,9 @@ withMinute a f = record {
 }
 
 -- "A refusal returns its number and nothing else; the account .. stay[s]"
-abbrev pub after : Account → Judged → Account
-after a (Accepted f) = withMinute a f
-after a (Refused r) = a
+abbrev pub afterAnswer : Account → Judged → Account
+afterAnswer a (Accepted f) = withMinute a f
+afterAnswer a (Refused r) = a
 
 unfoldable pub addTo : Masses → Account → List ℕ → Added
-addTo m a b = record { answer = answer m a b; account = after a (answer m a b) }
+addTo m a b = record { answer = answer m a b; account = afterAnswer a (answer m a b) }

@@ -3,3 +3,4 @@ pub mod Closing
 pub mod Kept
 pub mod Opening
 pub mod Promises
+pub mod scaffold

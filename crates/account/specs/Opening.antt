@@ -5,8 +5,6 @@ use lib.IntN.{ℤ, pos}
 use lib.ListN.{replicate}
 use Rattle.refusals.specs.Tables.{Line, when, firstOf}
 use Rattle.refusals.specs.declared.refusal.Refusal.the-variants.{List as LIST}
-use Rattle.refusals.specs.declared.verdict.Verdict.{Verdict}
-use Rattle.refusals.specs.declared.verdict.Verdict.the-variants.{Fine, Refuse}
 use Rattle.site.specs.Rules.{yearMinutes, siteLines}
 use Rattle.site.specs.declared.Site.{Site}
 use Rattle.maintenance.specs.Days.{listWrong, maintenanceOf}
@@ -33,23 +31,6 @@ fresh s days = record {
   counts = replicate 10 0;
 }
 
--- no site: a year of 0 refuses every minute
-unfoldable pub noSite : Site
-noSite = record {
-  method = 0;
-  year = 0;
-  gwp = 0;
-  height = 0;
-  diameter = 0;
-  temperature = record { lowest = pos 0; highest = pos 0 };
-  flow = record { lowest = 0; highest = 0 };
-  days = 0;
-}
-
--- beside a refusal stands an account of no site, which takes no minute and does not close
-abbrev pub accountBeside : Site → List ℤ → Verdict → Account
-accountBeside s days Fine = fresh s days
-accountBeside s days (Refuse r) = fresh noSite []
-
+-- beside a refusal stands an account that meets no call's requirement (OnlyOpened)
 unfoldable pub opened : Site → List ℤ → Opened
-opened s days = record { verdict = firstOf (openLines s days); account = accountBeside s days (firstOf (openLines s days)) }
+opened s days = record { verdict = firstOf (openLines s days); account = fresh s days }

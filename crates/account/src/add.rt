@@ -3,8 +3,9 @@ ghost use mathlib.Core.Path.{_≡_};
 ghost use Prim.Native.Nat.{_+_, _≤_, _<_};
 ghost use lib.Dec.{eqb};
 ghost use lib.ListN.{length, getD};
-ghost use Rattle.account.specs.Adding.{isFull, withGas, oneMore, withMinute, answer, addTo};
-ghost use Rattle.account.specs.Kept.{sum, Kept, Small};
+ghost use Rattle.account.specs.Adding.{isFull, inTimeAt, withGas, oneMore, withMinute, answer, addTo};
+ghost use Rattle.account.specs.Kept.{sum, Kept};
+ghost use Rattle.account.specs.scaffold.Small.{Small};
 ghost use Rattle.tool06.specs.Bounds.{oneIf};
 ghost use Rattle.site.specs.Rules.{yearMinutes};
 ghost use Rattle.tool06.specs.Tool.{Masses, Positive};
@@ -30,7 +31,7 @@ fn with_gas(rule: u8) -> u32
 }
 
 // The count at a place, with one more where it is the rule's.
-fn counted(counts: [u32; 10], place: usize, rule: u8) -> u32
+fn counted(counts: [u32; Figures::RULES], place: usize, rule: u8) -> u32
     requires { ⌜ (place < 10) × (sum counts ≤ 527040) ⌝ }
     ensures { λ r. ⌜ r ≡ getD counts place 0 + oneIf (eqb rule place) ⌝ }
 {
@@ -42,7 +43,7 @@ fn counted(counts: [u32; 10], place: usize, rule: u8) -> u32
 }
 
 // One more under a rule. Each count is made anew, since an array that is stored to at one place is slow to copy afterwards.
-fn one_more(counts: [u32; 10], rule: u8) -> [u32; 10]
+fn one_more(counts: [u32; Figures::RULES], rule: u8) -> [u32; Figures::RULES]
     requires { ⌜ (length counts ≡ 10) × (sum counts ≤ 527040) ⌝ }
     ensures { λ r. ⌜ r ≡ oneMore counts rule ⌝ }
 {
@@ -72,7 +73,7 @@ impl Account {
     // Whether maintenance is in time on a minute's own day.
     fn in_time(self, number: u32) -> bool
         requires { ⌜ Kept self ⌝ }
-        ensures { λ r. ⌜ r ≡ Rattle.account.specs.Adding.«in-time» self number ⌝ }
+        ensures { λ r. ⌜ r ≡ inTimeAt self number ⌝ }
     {
         let maintenance = self.maintenance;
         let days = maintenance.days;

@@ -22,7 +22,7 @@ fn in_tonnes(mg: u64) -> f64
     requires { ⌜ mg < 2 ^ 53 ⌝ }
     ensures { λ r. ⌜ r ≡ inTonnes mg ⌝ }
 {
-    mg as f64 / 1_000_000_000.0
+    mg as f64 / Account::TONNE as f64
 }
 
 impl Account {

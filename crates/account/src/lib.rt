@@ -2,6 +2,7 @@
 mod add;
 mod close;
 mod open;
+mod read;
 
 pub use add::Added;
 pub use close::Closed;
@@ -9,15 +10,17 @@ pub use close::Point;
 use maintenance::Maintenance;
 pub use open::Opened;
 use site::Site;
+use tool06::Figures;
 
 // Minutes accepted so far, of them those with gas, the sums of methane in mg, and the minutes under each rule.
+// No other crate can make one or change one but by the calls: the fields are read by methods.
 pub struct Account {
-    pub site: Site,
-    pub maintenance: Maintenance,
-    pub minutes: u32,
-    pub gas: u32,
-    pub fed: u64,
-    pub emitted: u64,
-    pub destroyed: u64,
-    pub counts: [u32; 10],
+    site: Site,
+    maintenance: Maintenance,
+    minutes: u32,
+    gas: u32,
+    fed: u64,
+    emitted: u64,
+    destroyed: u64,
+    counts: [u32; Figures::RULES],
 }

@@ -1,13 +1,12 @@
 // Opening an account.
 ghost use mathlib.Core.Path.{_≡_};
-ghost use Rattle.account.specs.Opening.{lastDay, fresh, noSite, opened};
+ghost use Rattle.account.specs.Opening.{lastDay, fresh, opened};
 use crate::Account;
 use maintenance::Maintenance;
 use refusals::Refusal;
 use refusals::Verdict;
-use site::Flows;
 use site::Site;
-use site::Temperatures;
+use tool06::Figures;
 
 // The verdict, and the account beside it: an enum cannot hold the account's arrays.
 pub struct Opened {
@@ -20,28 +19,6 @@ fn last_day(site: Site) -> i16
     ensures { λ r. ⌜ r ≡ lastDay (site .year) ⌝ }
 {
     (site.minutes() / Site::DAY_MINUTES - 1) as i16
-}
-
-// The site of an account that was refused: its year is none, so that it takes no minute.
-fn no_site() -> Site
-    ensures { λ r. ⌜ r ≡ noSite ⌝ }
-{
-    Site {
-        method: 0,
-        year: 0,
-        gwp: 0,
-        height: 0,
-        diameter: 0,
-        temperature: Temperatures {
-            lowest: 0,
-            highest: 0,
-        },
-        flow: Flows {
-            lowest: 0,
-            highest: 0,
-        },
-        days: 0,
-    }
 }
 
 impl Account {
@@ -57,25 +34,18 @@ impl Account {
             fed: 0,
             emitted: 0,
             destroyed: 0,
-            counts: [0u32; 10],
+            counts: [0u32; Figures::RULES],
         }
     }
 
-    // An account of this site with this maintenance list, or the first of the refusals 3 to 10 beside an account that takes no minute.
+    // An account of this site with this maintenance list. Beside the first of the refusals 3 to 10 it is one that no call takes.
     pub fn open(site: Site, list: &[i16]) -> Opened
         ensures { λ r. ⌜ r ≡ opened site (now (list .entry)) ⌝ }
     {
         let wrong = maintenance::list_wrong(list, last_day(site));
-        let verdict = site.verdict().also(wrong, Refusal::List);
-        match verdict {
-            Verdict::Fine => Opened {
-                verdict,
-                account: Account::fresh(site, list),
-            },
-            Verdict::Refuse(_) => Opened {
-                verdict,
-                account: Account::fresh(no_site(), &list[0..0]),
-            },
+        Opened {
+            verdict: site.verdict().also(wrong, Refusal::List),
+            account: Account::fresh(site, list),
         }
     }
 }

@@ -30,7 +30,7 @@ pub(crate) fn add(account: Account, record: &[u8], out: &mut [u8], at: usize) ->
     let grown = added.account;
     Grown {
         account: grown,
-        at: lines::put_minute(out, at, account.minutes, answer),
+        at: lines::put_minute(out, at, account.minutes(), answer),
     }
 }
 
@@ -49,7 +49,7 @@ fn fill_up(account: Account, count: u32, bytes: &mut [u8], size: usize) -> Fille
     let mut current = account;
     let mut taken: u32 = 0;
     while taken < count {
-        records::put_u32(bytes, 3, current.minutes);
+        records::put_u32(bytes, 3, current.minutes());
         let added = add_to(current, part(bytes, 0, size));
         let answer = added.answer;
         if let Judged::Refused(refusal) = answer {
@@ -97,6 +97,6 @@ pub(crate) fn fill(
     let verdict = filled.verdict;
     Grown {
         account,
-        at: put_filled(out, at, filled.taken, account.minutes, verdict),
+        at: put_filled(out, at, filled.taken, account.minutes(), verdict),
     }
 }

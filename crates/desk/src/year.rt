@@ -4,8 +4,10 @@ use account::Account;
 use account::Closed;
 use forms::put;
 
-pub(crate) fn counts(account: Account, out: &mut [u8], at: usize) -> usize {
-    let counts = account.counts;
+pub(crate) fn counts(account: Account, out: &mut [u8], at: usize) -> usize
+    requires { ⌜ Kept account ⌝ }
+{
+    let counts = account.counts();
     let at = put::each(out, at, b"counts", &counts);
     put::end(out, at)
 }

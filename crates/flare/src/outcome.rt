@@ -49,7 +49,7 @@ fn end(account: Account, summary: bool, out: &mut [u8]) -> bool
     requires { ⌜ Kept account ⌝ }
     requires { ⌜ length (now out) ≡ 65536 ⌝ }
 {
-    let counts = account.counts;
+    let counts = account.counts();
     if summary {
         if !print_rules(counts) {
             notes::unwritten();
@@ -60,16 +60,21 @@ fn end(account: Account, summary: bool, out: &mut [u8]) -> bool
 }
 
 // Says why the record was refused that stands behind those that were taken from this buffer; all before it were full.
-fn explain(refusal: Refusal, account: Account, records: &[u8]) {
-    let at = (account.minutes % MINUTES) as usize * Minute::BYTES;
+fn explain(refusal: Refusal, account: Account, records: &[u8])
+    requires { ⌜ Kept account ⌝ }
+{
+    let expected = account.minutes();
+    let at = (expected % MINUTES) as usize * Minute::BYTES;
     if at <= records.len() {
-        notes::refused_minute(refusal, &records[at..], account.minutes, account.site);
+        notes::refused_minute(refusal, &records[at..], expected, account.site());
     }
 }
 
 // What a measured flare's total is not, where minutes count as overdue.
-fn warn(account: Account) {
-    let counts = account.counts;
+fn warn(account: Account)
+    requires { ⌜ Kept account ⌝ }
+{
+    let counts = account.counts();
     let overdue = counts[Figures::OVERDUE as usize];
     if 0 < overdue {
         notes::overdue(overdue);

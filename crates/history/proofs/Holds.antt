@@ -5,9 +5,6 @@ use Prim.Native.Nat.{ℕ, _+_, _<_}
 use native.Mathlib.Omega.{arith}
 use lib.IntN.{ℤ}
 use lib.ListN.{length, length-append, getD-replicate}
-use Rattle.refusals.specs.Tables.{firstOf}
-use Rattle.refusals.specs.declared.verdict.Verdict.{Verdict}
-use Rattle.refusals.specs.declared.verdict.Verdict.the-variants.{Fine, Refuse}
 use Rattle.site.specs.declared.Site.{Site}
 use Rattle.tool06.specs.Bounds.{Entry, figuresOf, total}
 use Rattle.tool06.specs.Tool.{Masses}
@@ -15,16 +12,16 @@ use Rattle.tool06.proofs.Sizes.{gas-by-rule, rule-below}
 use Rattle.account.specs.Adding.{entry, withMinute}
 use Rattle.account.specs.Closing.{co2e}
 use Rattle.account.specs.Kept.{Kept}
-use Rattle.account.specs.Opening.{openLines, fresh, noSite, accountBeside, opened}
+use Rattle.account.specs.Opening.{fresh, opened}
 use Rattle.account.specs.declared.Account.{Account}
 use Rattle.account.proofs.Accepted.{small, room}
-use Rattle.account.proofs.Laws.{count-more, kept-with, opened-kept}
+use Rattle.account.proofs.Laws.{count-more, kept-with, only-opened}
 use Rattle.history.specs.Promises.{Holds, OfEvery, EveryKept}
 use Rattle.history.proofs.Calls.{every}
 
 pub every-kept : EveryKept
 every-kept m pos s days a es =
-    every m s days (λ a es. Kept a) (opened-kept s days)
+    every m s days (λ a es. Kept a) (only-opened s days .1)
     (λ a es r kept bytes t. kept-with kept (small m pos (entry a bytes) (t .entry-accepted)) (room t))
 
 total-more : (f : Entry → ℕ) (es : List Entry) (e : Entry) → total f (es ++ (e ∷ [])) ≡ total f es + f e
@@ -32,9 +29,9 @@ total-more f [] e = omega arith
 total-more f (d ∷ es) e = let h = total-more f es e in omega arith
 
 module _ (m : Masses) where
-  fresh-holds : (s : Site) (days : List ℤ) → Holds m (fresh s days) []
-  unfolding fresh co2e
-  fresh-holds s days = record {
+  opened-holds : (s : Site) (days : List ℤ) → Holds m (opened s days .account) []
+  unfolding opened fresh co2e
+  opened-holds s days = record {
     minutes-are = refl;
     gas-is = refl;
     fed-is = refl;
@@ -43,14 +40,6 @@ module _ (m : Masses) where
     counts-are = λ k below. getD-replicate 10 k 0 0 below;
     co2e-is = refl;
   }
-
-  opened-holds : (s : Site) (days : List ℤ) → Holds m (opened s days .account) []
-  unfolding opened
-  opened-holds s days = by-verdict (firstOf (openLines s days))
-    where
-      by-verdict : (v : Verdict) → Holds m (accountBeside s days v) []
-      by-verdict Fine = fresh-holds s days
-      by-verdict (Refuse r) = fresh-holds noSite []
 
   -- one minute more in the account, and in the list
   holds-more : {a : Account} {es : List Entry} → Kept a → Holds m a es → (e : Entry) → Holds m (withMinute a (figuresOf m e)) (es ++ (e ∷ []))
@@ -69,5 +58,5 @@ module _ (m : Masses) where
 
 pub holds : OfEvery (λ m s days a es. Holds m a es)
 holds m pos s days a es =
-    every m s days (Holds m) (opened-holds m s days)
+    every m s days (Holds m) (λ fine. opened-holds m s days)
     (λ a es r h bytes t. holds-more m (every-kept m pos s days a es r) h (entry a bytes))

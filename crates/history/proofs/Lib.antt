@@ -3,3 +3,4 @@ pub mod Holds
 pub mod Opening
 pub mod Places
 pub mod Promises
+pub mod Year

@@ -1,7 +1,9 @@
 -- Every account that any calls can give, with the minutes accepted so far.
+use mathlib.Core.Path.{_≡_}
 use mathlib.Core.List.{List, [], _∷_, _++_}
 use Prim.Native.Nat.{ℕ}
 use lib.IntN.{ℤ}
+use Rattle.refusals.specs.declared.verdict.Verdict.the-variants.{Fine}
 use Rattle.site.specs.declared.Site.{Site}
 use Rattle.tool06.specs.Bounds.{Entry}
 use Rattle.tool06.specs.Tool.{Masses}
@@ -36,7 +38,7 @@ minutesAfter m a es close = es
 minutesAfter m a es chart = es
 minutesAfter m a es co2e = es
 
--- the account after opening with this site and this list, and any calls; and the minutes accepted, in their order
+-- the account after an opening with this site and this list that was not refused, and any calls; and the minutes accepted, in their order
 pub data Reached (m : Masses) (s : Site) (days : List ℤ) : Account → List Entry → Type 0 where
-  at-first : Reached m s days (opened s days .account) []
+  at-first : opened s days .verdict ≡ Fine → Reached m s days (opened s days .account) []
   then : {a : Account} {es : List Entry} → Reached m s days a es → (c : Call) → Reached m s days (accountAfter m a c) (minutesAfter m a es c)

@@ -1,30 +1,18 @@
 -- What is proved of every account that any calls can give.
 use mathlib.Core.Path.{_≡_}
-use mathlib.Core.List.{List, [], _∷_, _++_}
+use mathlib.Core.List.{List, [], _∷_}
 use Prim.Native.Nat.{ℕ, suc, _*_, _/_, _<_}
 use lib.Dec.{eqb}
 use lib.IntN.{ℤ}
 use lib.ListN.{length, getD}
 use Rattle.exact.specs.Fractions.{Frac}
-use Rattle.refusals.specs.Tables.{firstOf}
-use Rattle.refusals.specs.declared.refusal.Refusal.{Refusal}
-use Rattle.refusals.specs.declared.refusal.Refusal.the-variants.{Incomplete}
-use Rattle.refusals.specs.declared.verdict.Verdict.the-variants.{Fine, Refuse}
 use Rattle.site.specs.declared.Site.{Site}
-use Rattle.minute.specs.Record.{minuteOf}
-use Rattle.minute.specs.Rules.{minuteLines}
 use Rattle.maintenance.specs.Days.{inTime, listedDays}
 use Rattle.tool06.specs.Bounds.{Bounds, Entry, IsAccepted, figuresOf, emittedOf, destroyedOf, oneIf, gasOf, total, exactTotal}
-use Rattle.tool06.specs.Judged.{oxygenLines}
 use Rattle.tool06.specs.Tool.{Each, Masses, Positive, AllPositive, by-equation-7}
-use Rattle.tool06.specs.declared.figures.Figures.{Figures}
-use Rattle.tool06.specs.declared.figures.Judged.the-variants.{Accepted, Refused}
-use Rattle.account.specs.Adding.{notNext, recordLines, addLines, answer, addTo}
-use Rattle.account.specs.Closing.{co2e, closing}
+use Rattle.account.specs.Closing.{co2e}
 use Rattle.account.specs.Kept.{Kept}
-use Rattle.account.specs.Opening.{openLines}
 use Rattle.account.specs.declared.Account.{Account}
-use Rattle.account.specs.declared.close.Closed.the-variants.{Refused as NotClosed}
 use Rattle.history.specs.History.{Reached}
 
 -- the minute e is minute k of the year at this site, accepted, with maintenance in time by this list on its own day
@@ -59,9 +47,9 @@ OfEvery P = (m : Masses) → Positive m → (s : Site) (days : List ℤ) (a : Ac
 abbrev pub Histories : Type 0
 Histories = OfEvery (λ m s days a es. FromMinute s days 0 es × Holds m a es)
 
--- an account that was opened stays that of its site and its list
+-- an account stays that of its site and its list
 abbrev pub OpenedStays : Type 0
-OpenedStays = OfEvery (λ m s days a es. firstOf (openLines s days) ≡ Fine → (a .site ≡ s) × (listedDays (a .maintenance) ≡ days))
+OpenedStays = OfEvery (λ m s days a es. (a .site ≡ s) × (listedDays (a .maintenance) ≡ days))
 
 -- what the calls require
 abbrev pub EveryKept : Type 0
@@ -83,20 +71,3 @@ DemandThree = OfEvery (λ m s days a es. BesideTheTool m a es)
 -- the same with the tool's own: that of each minute's gas, by equation (7)
 abbrev pub DemandThreeBySeven : Type 0
 DemandThreeBySeven = OfEvery (λ m s days a es. (MM : Each Frac) → AllPositive MM → BesideTheTool (by-equation-7 m MM) a es)
-
--- "A refusal returns its number and nothing else; the account .. stay[s]"
-abbrev pub RefusedStays : Type 0
-RefusedStays = (m : Masses) (a : Account) (bytes : List ℕ) (r : Refusal) → answer m a bytes ≡ Refused r → addTo m a bytes .account ≡ a
-
--- "Adding a minute: 11, 1, 2, 12 to 19": once opening was not refused, no site's refusal comes between
-abbrev pub AddsInOrder : Type 0
-AddsInOrder = OfEvery (λ m s days a es.
-    firstOf (openLines s days) ≡ Fine → (bytes : List ℕ) →
-    let n = minuteOf bytes in
-    firstOf (addLines a bytes) ≡ firstOf (recordLines a bytes ++ minuteLines (notNext a n) n ++ oxygenLines s n))
-
--- the account beside a refused opening takes no minute, and does not close
-abbrev pub RefusedOpening : Type 0
-RefusedOpening = OfEvery (λ m s days a es.
-    (r : Refusal) → firstOf (openLines s days) ≡ Refuse r →
-    (es ≡ []) × ((bytes : List ℕ) (f : Figures) → answer m a bytes ≡ Accepted f → ⊥) × (closing a ≡ NotClosed Incomplete))

@@ -3,14 +3,14 @@ use Prim.Native.Nat.{ℕ}
 use mathlib.Core.Path.{_≡_, refl, sym, ap, _∙_}
 use mathlib.Core.List.{List, _++_}
 use Rattle.refusals.specs.Refusals.{numberOf}
-use Rattle.refusals.specs.Tables.{Line, firstOf, after}
+use Rattle.refusals.specs.Tables.{Line, firstOf, followedBy}
 use Rattle.refusals.specs.declared.refusal.Refusal.{Refusal}
 use Rattle.refusals.specs.declared.verdict.Verdict.{Verdict}
 use Rattle.refusals.specs.declared.verdict.Verdict.the-variants.{Fine, Refuse}
 use Rattle.refusals.proofs.Tables.{joined, split}
 use Rattle.records.specs.House.{headLines, bufferLines, written, answered}
 use Rattle.site.specs.Record.{siteOf}
-use Rattle.site.specs.Rules.{siteLines}
+use Rattle.site.specs.Rules.{siteLines, Examined}
 use Rattle.site.specs.declared.Site.{Site}
 use Rattle.minute.specs.Record.{minuteOf}
 use Rattle.minute.specs.Rules.{minuteLines}
@@ -24,7 +24,7 @@ use Rattle.tool06.proofs.Ones.{ones, ones-positive}
 use Rattle.host.specs.Single.{answerBytes, sinceInTime, singleLines, single, returned, singleFigures, answerAfter}
 
 -- three tables one after the other, of which the first has the verdict v
-begun : (t u w : List Line) {v : Verdict} → firstOf t ≡ v → firstOf (t ++ u ++ w) ≡ after (after v (firstOf u)) (firstOf w)
+begun : (t u w : List Line) {v : Verdict} → firstOf t ≡ v → firstOf (t ++ u ++ w) ≡ followedBy (followedBy v (firstOf u)) (firstOf w)
 begun t u w e = rw (joined (t ++ u) w, joined t u, e)
 
 -- 22, 1 to 9, and the minute's 1 and 2
@@ -62,21 +62,23 @@ module _ (site minute : List ℕ) (days : ℕ) (answer : List ℕ) where
   judgedAs m = answered Accepted Refused (singleFigures m site minute days) (single site minute answer)
 
   by-records : {v : Verdict} → firstOf (recordLines site minute answer) ≡ v
-      → single site minute answer ≡ after (after v (firstOf (minuteLines (beyondYear s n) n))) (firstOf (oxygenLines s n))
+      → single site minute answer ≡ followedBy (followedBy v (firstOf (minuteLines (beyondYear s n) n))) (firstOf (oxygenLines s n))
   unfolding single singleLines
   by-records e = begun (recordLines site minute answer) (minuteLines (beyondYear s n) n) (oxygenLines s n) e
 
   pub refused-as : {r : Refusal} → firstOf (recordLines site minute answer) ≡ Refuse r → (m : Masses) → Refused r ≡ judgedAs m
   refused-as e m = sym (ap (answered Accepted Refused (singleFigures m site minute days)) (by-records e))
 
-  -- the site's 3 to 9, examined again, give nothing
+  pub examined : firstOf (recordLines site minute answer) ≡ Fine → Examined s
+  examined e =
+      let head = bufferLines 25 answer ++ headLines 30 1 site in
+      split head (siteLines s) (split (head ++ siteLines s) (headLines 54 1 minute) e .0) .1
+
   pub judged-as : firstOf (recordLines site minute answer) ≡ Fine → (m : Masses) → judged m (beyondYear s n) s n (sinceInTime s days) ≡ judgedAs m
   unfolding judged singleFigures
   judged-as e m =
-      let head = bufferLines 25 answer ++ headLines 30 1 site in
-      let fine = split head (siteLines s) (split (head ++ siteLines s) (headLines 54 1 minute) e .0) .1 in
       ap (answered Accepted Refused (singleFigures m site minute days))
-      (begun (siteLines s) (minuteLines (beyondYear s n) n) (oxygenLines s n) fine ∙ sym (by-records e))
+      (joined (minuteLines (beyondYear s n) n) (oxygenLines s n) ∙ sym (by-records e))
 
   pub outcome : (j : Judged) → ((m : Masses) → Positive m → j ≡ judgedAs m)
       → (code j ≡ returned (single site minute answer)) × ((m : Masses) → Positive m → left answer j ≡ answerAfter m site minute days answer)

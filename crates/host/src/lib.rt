@@ -12,16 +12,10 @@ use site::Site;
 use tool06::Figures;
 use tool06::Judged;
 
-// Fed, emitted and destroyed methane, eight bytes each, then the rule.
-const ANSWER_BYTES: usize = 25;
-
-// Days since maintenance where there was none.
-const NEVER: u16 = 65_535;
-
 fn in_time(site: Site, days: u16) -> bool
     ensures { λ r. ⌜ r ≡ sinceInTime site days ⌝ }
 {
-    (days != NEVER) & (days <= site.days)
+    (days != Site::NEVER) & (days <= site.days)
 }
 
 fn put_u64(b: &mut [u8], k: u8, x: u64)
@@ -48,7 +42,7 @@ pub extern "C" fn flare_minute(site: &[u8], minute: &[u8], days: u16, answer: &m
     ensures { λ r. ⌜ (r ≡ returned (single (now (site .entry)) (now (minute .entry)) (now (answer .entry)))) × ((m : Masses) → Positive m → now (answer .exit) ≡ answerAfter m (now (site .entry)) (now (minute .entry)) days (now (answer .entry))) ⌝ }
 {
     let fields = site::fields_in(site);
-    let buffer = Verdict::Fine.also(answer.len() != ANSWER_BYTES, Refusal::Buffer);
+    let buffer = Verdict::Fine.also(answer.len() != Figures::ANSWER_BYTES, Refusal::Buffer);
     let site_head = records::head(site, Site::BYTES, Site::VERSION);
     let minute_head = records::head(minute, Minute::BYTES, Minute::VERSION);
     let verdict = buffer

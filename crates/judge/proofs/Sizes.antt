@@ -8,7 +8,7 @@ use Rattle.exact.proofs.Rounding.{ceil-le-self, mul-within}
 use Rattle.minute.specs.declared.Minute.{Minute}
 use Rattle.tool06.specs.declared.class.Class.{Class}
 use Rattle.tool06.specs.declared.class.Class.the-variants.{Open, Low, Tall}
-use Rattle.tool06.specs.Nanograms.{choose, lowTenth, lostTenths, Measurable}
+use Rattle.tool06.specs.scaffold.Nanograms.{choose, lowTenth, lostTenths, Measurable}
 use Rattle.tool06.specs.Short.{K, five-LKf}
 
 pub low-within : (c : Class) → lowTenth c ≤ 1

@@ -2,7 +2,7 @@
 ghost use mathlib.Core.Path.{_≡_};
 ghost use Prim.Native.Nat.{_+_, _*_, _≤_, _<_, _^_, min};
 ghost use Rattle.exact.specs.Rounding.{ceilDiv};
-ghost use Rattle.tool06.specs.Nanograms.{lowTenth, lostTenths, lost, emittedNg, Measurable};
+ghost use Rattle.tool06.specs.scaffold.Nanograms.{lowTenth, lostTenths, lost, emittedNg, Measurable};
 ghost use Rattle.tool06.specs.Short.{K, K-plus, K-minus, F-RG-ng, five-LKf};
 use minute::Gas;
 use minute::Minute;
@@ -58,7 +58,7 @@ fn low_tenth(class: Class) -> u64
 {
     match class {
         Class::Open => 0,
-        Class::Low => 1,
+        Class::Low => Figures::LOW_TENTHS,
         Class::Tall => 0,
     }
 }
@@ -68,13 +68,13 @@ fn lost_tenths(class: Class, rule: u8) -> u64
     ensures { λ r. ⌜ r ≡ lostTenths class rule ⌝ }
 {
     if rule == Figures::OPEN {
-        5
+        Figures::OPEN_TENTHS
     } else if rule == Figures::DEFAULT {
-        1 + low_tenth(class)
+        Figures::DEFAULT_TENTHS + low_tenth(class)
     } else if rule == Figures::MEASURED {
         low_tenth(class)
     } else {
-        10
+        Figures::ALL_TENTHS
     }
 }
 

@@ -7,10 +7,10 @@ use native.Mathlib.Nat.{add-zero}
 use lib.ListN.{length}
 use borrow.Author.Tests.{le-leb, lt-leb}
 use Rattle.exact.specs.Bytes.{put}
-use Rattle.text.specs.Places.{Written}
+use Rattle.text.specs.Places.{PutFrom}
 use Rattle.lines.specs.Places.{hasRoom, placed, placeAfter}
 
-pub there : {b line b' : List ℕ} {at next : ℕ} → at + 163 ≤ length b → Written b at line b' next → (next ≡ placeAfter b at line) × (b' ≡ placed b at line)
+pub there : {b line b' : List ℕ} {at next : ℕ} → at + 163 ≤ length b → PutFrom b at line b' next → (next ≡ placeAfter b at line) × (b' ≡ placed b at line)
 unfolding placed placeAfter
 there h w = rw (le-leb _ _ h) (w .place, w .holds)
 

@@ -4,7 +4,7 @@ ghost use mathlib.Core.List.{_++_};
 ghost use Prim.Native.Nat.{_+_, _-_, _≤_};
 ghost use lib.ListN.{length};
 ghost use Rattle.account.specs.Kept.{Kept};
-ghost use Rattle.text.specs.Places.{Written};
+ghost use Rattle.text.specs.Places.{PutFrom};
 ghost use Rattle.text.specs.Text.{text, decimal};
 ghost use Rattle.lines.specs.Lines.{methane, acceptedLine, refusedLine, minuteLine, totalLine, standing, yearLine, siteLine, ruleLine};
 ghost use Rattle.lines.specs.Places.{placed, placeAfter};
@@ -32,7 +32,7 @@ fn room(out: &[u8], at: usize) -> usize
 // Methane in mg, of a minute or of a year.
 fn put_methane(out: &mut [u8], at: usize, fed: u64, emitted: u64, destroyed: u64) -> usize
     requires { ⌜ at + 85 ≤ length (now out) ⌝ }
-    ensures { λ r. ⌜ Written (now (out .entry)) at (methane fed emitted destroyed) (now (out .exit)) r ⌝ }
+    ensures { λ r. ⌜ PutFrom (now (out .entry)) at (methane fed emitted destroyed) (now (out .exit)) r ⌝ }
     ensures within { λ r. ⌜ r ≤ at + 85 ⌝ }
 {
     let at = put_text(out, at, b" fed ");
@@ -45,7 +45,7 @@ fn put_methane(out: &mut [u8], at: usize, fed: u64, emitted: u64, destroyed: u64
 
 fn put_accepted(out: &mut [u8], at: usize, minute: u32, figures: Figures) -> usize
     requires { ⌜ at + 163 ≤ length (now out) ⌝ }
-    ensures { λ r. ⌜ Written (now (out .entry)) at (acceptedLine minute figures) (now (out .exit)) r ⌝ }
+    ensures { λ r. ⌜ PutFrom (now (out .entry)) at (acceptedLine minute figures) (now (out .exit)) r ⌝ }
 {
     let at = put_text(out, at, b"minute ");
     let at = put_decimal(out, at, minute as u64);
@@ -57,7 +57,7 @@ fn put_accepted(out: &mut [u8], at: usize, minute: u32, figures: Figures) -> usi
 
 fn put_refused(out: &mut [u8], at: usize, minute: u32, refusal: Refusal) -> usize
     requires { ⌜ at + 163 ≤ length (now out) ⌝ }
-    ensures { λ r. ⌜ Written (now (out .entry)) at (refusedLine minute refusal) (now (out .exit)) r ⌝ }
+    ensures { λ r. ⌜ PutFrom (now (out .entry)) at (refusedLine minute refusal) (now (out .exit)) r ⌝ }
 {
     let at = put_text(out, at, b"minute ");
     let at = put_decimal(out, at, minute as u64);
@@ -83,7 +83,7 @@ pub fn put_minute(out: &mut [u8], at: usize, minute: u32, answer: Judged) -> usi
 // Minutes accepted, and of them those with gas.
 fn put_counts(out: &mut [u8], at: usize, minutes: u32, gas: u32) -> usize
     requires { ⌜ at + 51 ≤ length (now out) ⌝ }
-    ensures { λ r. ⌜ Written (now (out .entry)) at (text "total " ++ decimal minutes ++ text " gas " ++ decimal gas) (now (out .exit)) r ⌝ }
+    ensures { λ r. ⌜ PutFrom (now (out .entry)) at (text "total " ++ decimal minutes ++ text " gas " ++ decimal gas) (now (out .exit)) r ⌝ }
     ensures within { λ r. ⌜ r ≤ at + 51 ⌝ }
 {
     let at = put_text(out, at, b"total ");
@@ -96,10 +96,15 @@ pub fn put_total(out: &mut [u8], at: usize, account: Account) -> usize
     requires { ⌜ Kept account ⌝ }
     ensures { λ r. ⌜ (r ≡ placeAfter (now (out .entry)) at (totalLine account)) × (now (out .exit) ≡ placed (now (out .entry)) at (totalLine account)) ⌝ }
 {
+    let minutes = account.minutes();
+    let gas = account.gas();
+    let fed = account.fed();
+    let emitted = account.emitted();
+    let destroyed = account.destroyed();
     let co2e = account.co2e();
     if LONGEST <= room(out, at) {
-        let at = put_counts(out, at, account.minutes, account.gas);
-        let at = put_methane(out, at, account.fed, account.emitted, account.destroyed);
+        let at = put_counts(out, at, minutes, gas);
+        let at = put_methane(out, at, fed, emitted, destroyed);
         let at = put_text(out, at, b" co2e ");
         let at = put_decimal(out, at, co2e);
         put_text(out, at, b"\n")
@@ -111,7 +116,7 @@ pub fn put_total(out: &mut [u8], at: usize, account: Account) -> usize
 // Whether the year is open, or the tonnes that it closed with.
 fn put_standing(out: &mut [u8], at: usize, closed: Closed) -> usize
     requires { ⌜ at + 28 ≤ length (now out) ⌝ }
-    ensures { λ r. ⌜ Written (now (out .entry)) at (standing closed) (now (out .exit)) r ⌝ }
+    ensures { λ r. ⌜ PutFrom (now (out .entry)) at (standing closed) (now (out .exit)) r ⌝ }
     ensures within { λ r. ⌜ r ≤ at + 28 ⌝ }
 {
     match closed {
@@ -127,7 +132,7 @@ pub fn put_year(out: &mut [u8], at: usize, account: Account) -> usize
     requires { ⌜ Kept account ⌝ }
     ensures { λ r. ⌜ (r ≡ placeAfter (now (out .entry)) at (yearLine account)) × (now (out .exit) ≡ placed (now (out .entry)) at (yearLine account)) ⌝ }
 {
-    let site = account.site;
+    let site = account.site();
     let closed = account.close();
     if LONGEST <= room(out, at) {
         let at = put_text(out, at, b"year ");

@@ -18,10 +18,10 @@ one-more days i h most =
     rw (more, set-at (take i days) (pos 0) (replicate n (pos 0)) (getD days i (pos 0)) i (length-take-le i days (omega arith)), ← append-snoc, ← take-suc days i (pos 0) h, add-one) refl
 
 -- so many as the list has, at most 64, are all of them
-pub all-kept : (days : List ℤ) (n : ℕ) → n ≡ min (length days) 64 → _≡_ {A = Maintenance} (record { days = take n days ++ replicate (64 - n) (pos 0); listed = n }) (maintenanceOf days)
+pub all-kept : (days : List ℤ) (n : ℕ) → n ≡ min (length days) 64 → _≡_ {A = Maintenance} (record { days = take n days ++ replicate (64 - n) (pos 0); listed = length days }) (maintenanceOf days)
 unfolding maintenanceOf
 all-kept days n e =
     let kept : length (take 64 days) ≡ n = rw length-take (omega arith) in
     let same : take n days ≡ take 64 days = sym (take-take n 64 days (omega arith)) ∙ rw (← kept) (take-length (take 64 days)) in
     let rest : 64 - n ≡ 64 - length days = omega arith in
-    rw (same, rest, e) refl
+    rw (same, rest) refl

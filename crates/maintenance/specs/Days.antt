@@ -1,5 +1,5 @@
 -- Document 01, "Maintenance list": days relative to 1 January (day 0).
-use Prim.Native.Nat.{ℕ, _-_, _≤_, min}
+use Prim.Native.Nat.{ℕ, _-_, _≤_}
 use mathlib.Core.Path.{_≡_}
 use mathlib.Core.Bool.{Bool, true, false, _||_, _&&_, not}
 use mathlib.Core.List.{List, [], _∷_, _++_}
@@ -37,18 +37,18 @@ unfoldable pub inTime : List ℤ → ℕ → ℕ → Bool
 inTime [] d allowed = false
 inTime (e ∷ es) d allowed = serves d allowed e || inTime es d allowed
 
--- the list as it is kept: its days, at most 64, and after them zeros
+-- the list as it is kept: its days, at most 64, after them zeros, and how many it has
 unfoldable pub maintenanceOf : List ℤ → Maintenance
 maintenanceOf days = record {
   days = take 64 days ++ replicate (64 - length days) (pos 0);
-  listed = min (length days) 64;
+  listed = length days;
 }
 
 -- the days that are listed
 unfoldable pub listedDays : Maintenance → List ℤ
 listedDays m = take (m .listed) (m .days)
 
--- what every list that is kept has
+-- what every list of at most 64 days has
 pub record KeptList (m : Maintenance) : Type 0 where
   pub places : length (m .days) ≡ 64
   pub listed : m .listed ≤ 64

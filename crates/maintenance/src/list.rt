@@ -6,7 +6,7 @@ ghost use Rattle.maintenance.specs.Days.{listWrong, maintenanceOf};
 
 // The days are the first `listed` places.
 pub struct Maintenance {
-    pub days: [i16; 64],
+    pub days: [i16; Maintenance::MOST],
     pub listed: usize,
 }
 
@@ -16,18 +16,19 @@ impl Maintenance {
 
     pub const FIRST: i16 = -3_660;
 
-    // The list, or of a longer one than is allowed its first days.
+    // The list. Of one that is longer than is allowed the first days, under its own length.
     pub fn of(list: &[i16]) -> Maintenance
         ensures { λ r. ⌜ r ≡ maintenanceOf (now (list .entry)) ⌝ }
     {
-        let listed = if list.len() <= Maintenance::MOST {
-            list.len()
+        let listed = list.len();
+        let kept = if listed <= Maintenance::MOST {
+            listed
         } else {
             Maintenance::MOST
         };
-        let mut days = [0i16; 64];
+        let mut days = [0i16; Maintenance::MOST];
         let mut i: usize = 0;
-        while i < listed {
+        while i < kept {
             days[i] = list[i];
             i = i + 1;
         }

@@ -14,20 +14,20 @@ use Rattle.minute.specs.declared.MinuteRead.the-variants.{Fields, Refuse
 -- the document's bytes and fields, "in the order CH4, CO, CO2, O2, H2, H2S, NH3, N2"
 abbrev pub minuteLayout : Layout Minute
 minuteLayout =
-    bytes 3 6 (λ m. m .number)
-    ∷ bytes 7 7 (λ m. m .flags)
-    ∷ bytes 8 9 (λ m. unsigned (m .temperature))
-    ∷ bytes 10 13 (λ m. m .litres)
-    ∷ bytes 14 17 (λ m. m .gas .ch4)
-    ∷ bytes 18 21 (λ m. m .gas .co)
-    ∷ bytes 22 25 (λ m. m .gas .co2)
-    ∷ bytes 26 29 (λ m. m .gas .o2)
-    ∷ bytes 30 33 (λ m. m .gas .h2)
-    ∷ bytes 34 37 (λ m. m .gas .h2s)
-    ∷ bytes 38 41 (λ m. m .gas .nh3)
-    ∷ bytes 42 45 (λ m. m .gas .n2)
-    ∷ bytes 46 49 (λ m. m .exhaust .oxygen)
-    ∷ bytes 50 53 (λ m. m .exhaust .methane)
+    bytes 3 6 (λ n. n .number)
+    ∷ bytes 7 7 (λ n. n .flags)
+    ∷ bytes 8 9 (λ n. unsigned (n .temperature))
+    ∷ bytes 10 13 (λ n. n .litres)
+    ∷ bytes 14 17 (λ n. n .gas .ch4)
+    ∷ bytes 18 21 (λ n. n .gas .co)
+    ∷ bytes 22 25 (λ n. n .gas .co2)
+    ∷ bytes 26 29 (λ n. n .gas .o2)
+    ∷ bytes 30 33 (λ n. n .gas .h2)
+    ∷ bytes 34 37 (λ n. n .gas .h2s)
+    ∷ bytes 38 41 (λ n. n .gas .nh3)
+    ∷ bytes 42 45 (λ n. n .gas .n2)
+    ∷ bytes 46 49 (λ n. n .exhaust .oxygen)
+    ∷ bytes 50 53 (λ n. n .exhaust .methane)
     ∷ []
 
 -- the minute whose numbers these are, in the layout's order
@@ -47,7 +47,7 @@ minuteOf b = readBy minuteLayout minute b
 
 -- the bytes of a record's fields
 unfoldable pub minuteBytes : Minute → List ℕ
-minuteBytes m = houseForm 54 1 (laid minuteLayout m)
+minuteBytes n = houseForm 54 1 (laid minuteLayout n)
 
 -- "Reading a minute alone, without a site, gives 1, 2, 12, 13 in that sense, 14 to 18"
 unfoldable pub readMinute : List ℕ → MinuteRead
@@ -55,4 +55,4 @@ readMinute b = answered Fields Refused (minuteOf b) (firstOf (headLines 54 1 b +
 
 -- "Writing takes fields and a .. 54-byte buffer: 22, then the same field refusals"
 unfoldable pub writeMinute : Minute → List ℕ → Verdict
-writeMinute m out = firstOf (bufferLines 54 out ++ aloneLines m)
+writeMinute n out = firstOf (bufferLines 54 out ++ aloneLines n)

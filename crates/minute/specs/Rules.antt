@@ -11,34 +11,38 @@ use Rattle.refusals.specs.declared.refusal.Refusal.the-variants.{Flags, Order, 
 use Rattle.minute.specs.declared.gas.Gas.{Gas}
 use Rattle.minute.specs.declared.Minute.{Minute}
 
--- "bit 0 flame seen, bit 1 temperature present, bit 2 exhaust readings present"
+-- the flag that is worth so much in the flags' byte is on
+abbrev pub isOn : ℕ → Minute → Bool
+isOn worth n = eqb (n .flags / worth % 2) 1
+
+-- "bit 0 flame seen, bit 1 temperature present, bit 2 exhaust readings present": bit k is worth 2 ^ k
 abbrev pub flag : ℕ → Minute → Bool
-flag k m = eqb (m .flags / 2 ^ k % 2) 1
+flag k n = isOn (2 ^ k) n
 
 abbrev pub flameSeen : Minute → Bool
-flameSeen m = flag 0 m
+flameSeen n = flag 0 n
 
 abbrev pub temperaturePresent : Minute → Bool
-temperaturePresent m = flag 1 m
+temperaturePresent n = flag 1 n
 
 abbrev pub exhaustPresent : Minute → Bool
-exhaustPresent m = flag 2 m
+exhaustPresent n = flag 2 n
 
 -- gas: "0 no gas (0 litres)"
 abbrev pub hasGas : Minute → Bool
-hasGas m = ltb 0 (m .litres)
+hasGas n = ltb 0 (n .litres)
 
 -- "bits 3 to 7 not zero"
 abbrev pub flagsWrong : Minute → Bool
-flagsWrong m = above 7 (m .flags)
+flagsWrong n = above 7 (n .flags)
 
 -- "over 100,000"
 abbrev pub flowWrong : Minute → Bool
-flowWrong m = flowOutside (m .litres)
+flowWrong n = flowOutside (n .litres)
 
 -- the sum of the fractions
-abbrev pub total : Gas → ℕ
-total g = g .ch4 + g .co + g .co2 + g .o2 + g .h2 + g .h2s + g .nh3 + g .n2
+abbrev pub fractionSum : Gas → ℕ
+fractionSum g = g .ch4 + g .co + g .co2 + g .o2 + g .h2 + g .h2s + g .nh3 + g .n2
 
 -- "a fraction over 1,000,000 .."
 abbrev pub fractionOver : Gas → Bool
@@ -54,7 +58,7 @@ fractionOver g =
 
 -- ".. or a sum not 1,000,000"
 unfoldable pub compositionWrong : Gas → Bool
-compositionWrong g = fractionOver g || not (eqb (total g) 1000000)
+compositionWrong g = fractionOver g || not (eqb (fractionSum g) 1000000)
 
 -- "CH4 is 0 or below any of CO, H2, H2S, NH3"
 abbrev pub methaneWrong : Gas → Bool
@@ -63,28 +67,28 @@ methaneWrong g =
 
 -- "present outside -500..15,000, or absent and not 0"
 abbrev pub temperatureWrong : Minute → Bool
-temperatureWrong m =
-    (temperaturePresent m && temperatureOutside (m .temperature))
-    || (not (temperaturePresent m) && outsideZ (pos 0) (pos 0) (m .temperature))
+temperatureWrong n =
+    (temperaturePresent n && temperatureOutside (n .temperature))
+    || (not (temperaturePresent n) && outsideZ (pos 0) (pos 0) (n .temperature))
 
 -- "present outside range, or absent and not both 0"
 abbrev pub exhaustWrong : Minute → Bool
-exhaustWrong m =
-    (exhaustPresent m && (above 209999 (m .exhaust .oxygen) || above 50000 (m .exhaust .methane)))
-    || (not (exhaustPresent m) && (above 0 (m .exhaust .oxygen) || above 0 (m .exhaust .methane)))
+exhaustWrong n =
+    (exhaustPresent n && (above 209999 (n .exhaust .oxygen) || above 50000 (n .exhaust .methane)))
+    || (not (exhaustPresent n) && (above 0 (n .exhaust .oxygen) || above 0 (n .exhaust .methane)))
 
 -- 12 to 18, with 13 where the minute is out of order in the caller's sense
 unfoldable pub minuteLines : Bool → Minute → List Line
-minuteLines disordered m =
-    when (flagsWrong m) Flags
+minuteLines disordered n =
+    when (flagsWrong n) Flags
     ∷ when disordered Order
-    ∷ when (flowWrong m) Flow
-    ∷ when (hasGas m && compositionWrong (m .gas)) Composition
-    ∷ when (hasGas m && methaneWrong (m .gas)) Methane
-    ∷ when (temperatureWrong m) Temperature
-    ∷ when (exhaustWrong m) Exhaust
+    ∷ when (flowWrong n) Flow
+    ∷ when (hasGas n && compositionWrong (n .gas)) Composition
+    ∷ when (hasGas n && methaneWrong (n .gas)) Methane
+    ∷ when (temperatureWrong n) Temperature
+    ∷ when (exhaustWrong n) Exhaust
     ∷ []
 
 -- a minute alone: "12, 13 when it is not below 527,040, 14 to 18"
 abbrev pub aloneLines : Minute → List Line
-aloneLines m = minuteLines (leb 527040 (m .number)) m
+aloneLines n = minuteLines (leb 527040 (n .number)) n

@@ -1,6 +1,6 @@
 // The gas in a minute's record: eight fractions in ppm by volume.
 ghost use mathlib.Core.Path.{_≡_};
-ghost use Rattle.minute.specs.Rules.{total, compositionWrong, methaneWrong};
+ghost use Rattle.minute.specs.Rules.{fractionSum, compositionWrong, methaneWrong};
 
 pub struct Gas {
     pub ch4: u32,
@@ -37,8 +37,21 @@ impl Gas {
 
     pub const K_N2: u64 = 84;
 
+    // The weights of S, whose sign is that of the oxygen that burning the gas takes.
+    pub const S_CH4: u64 = 8;
+
+    pub const S_CO: u64 = 2;
+
+    pub const S_O2: u64 = 4;
+
+    pub const S_H2: u64 = 2;
+
+    pub const S_H2S: u64 = 2;
+
+    pub const S_NH3: u64 = 3;
+
     fn total(self) -> u64
-        ensures { λ r. ⌜ r ≡ total self ⌝ }
+        ensures { λ r. ⌜ r ≡ fractionSum self ⌝ }
     {
         self.ch4 as u64
             + self.co as u64

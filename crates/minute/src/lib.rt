@@ -7,7 +7,7 @@ pub use gas::Gas;
 pub use read::fields_in;
 ghost use mathlib.Core.Path.{_≡_};
 ghost use Rattle.refusals.specs.Tables.{firstOf};
-ghost use Rattle.minute.specs.Rules.{temperatureWrong, exhaustWrong, minuteLines, aloneLines};
+ghost use Rattle.minute.specs.Rules.{isOn, temperatureWrong, exhaustWrong, minuteLines, aloneLines};
 use refusals::Refusal;
 use refusals::Verdict;
 
@@ -62,10 +62,20 @@ impl Minute {
 
     pub const MOST_METHANE: u32 = 50_000;
 
+    // Whether a flag is on: FLAME, TEMPERATURE or EXHAUST.
+    pub fn has(self, flag: u8) -> bool
+        ensures { λ r. ⌜ r ≡ isOn flag self ⌝ }
+    {
+        if flag == 0 {
+            return false;
+        }
+        self.flags / flag % 2 == 1
+    }
+
     fn temperature_wrong(self) -> bool
         ensures { λ r. ⌜ r ≡ temperatureWrong self ⌝ }
     {
-        let present = self.flags / Minute::TEMPERATURE % 2 == 1;
+        let present = self.has(Minute::TEMPERATURE);
         (present & ((self.temperature < Minute::COLDEST) | (Minute::HOTTEST < self.temperature)))
             | (!present & ((self.temperature < 0) | (0 < self.temperature)))
     }
@@ -73,7 +83,7 @@ impl Minute {
     fn exhaust_wrong(self) -> bool
         ensures { λ r. ⌜ r ≡ exhaustWrong self ⌝ }
     {
-        let present = self.flags / Minute::EXHAUST % 2 == 1;
+        let present = self.has(Minute::EXHAUST);
         let exhaust = self.exhaust;
         (present
             & ((Minute::MOST_OXYGEN < exhaust.oxygen) | (Minute::MOST_METHANE < exhaust.methane)))

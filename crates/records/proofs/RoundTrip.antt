@@ -12,7 +12,7 @@ use Rattle.exact.specs.Layout.{Layout, laid, Maker, readBy, gapless}
 use Rattle.exact.proofs.Bools.{or-false}
 use Rattle.exact.proofs.Spelling.{bytesOf-numberAt, cells-drop}
 use Rattle.exact.proofs.Layouts.{within, laid-length, made, read-laid, Holds, laid-held}
-use Rattle.refusals.specs.Tables.{Line, firstOf, after}
+use Rattle.refusals.specs.Tables.{Line, firstOf, followedBy}
 use Rattle.records.specs.House.{houseForm, headLines, bufferLines, answered, written}
 use Rattle.records.specs.RoundTrip.{Kind, ReadsBack, WritesBack}
 use Rattle.refusals.specs.declared.refusal.Refusal.{Refusal}
@@ -93,7 +93,7 @@ module _ {S R : Type 0} (n version : ℕ) (layout : Layout S) (make : Maker layo
       let p = split (headLines n version b) (lines x) (a .0) in
       let d = headed n version b (p .0) in
       let good : firstOf (lines s) ≡ Fine = ap (λ (y : S). firstOf (lines y)) (sym (a .1)) ∙ p .1 in
-      let w : kind .write s out ≡ Fine = joined (bufferLines n out) (lines s) ∙ ap₂ after (buffer-fine n out l) good in
+      let w : kind .write s out ≡ Fine = joined (bufferLines n out) (lines s) ∙ ap₂ followedBy (buffer-fine n out l) good in
       let gap : gapless 3 layout (length b) ≡ true = ap (gapless 3 layout) (d .size) ∙ k .gap in
       let count : n - 2 ≡ numberAt 2 b 0 = omega arith in
       let front : bytesOf 2 (n - 2) ≡ cells 2 b 0 = ap (bytesOf 2) count ∙ bytesOf-numberAt b h 2 0 in

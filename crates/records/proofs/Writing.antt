@@ -10,7 +10,7 @@ use lib.ListN.{length}
 use Rattle.exact.specs.Bytes.{bytesOf, put}
 use Rattle.exact.specs.Layout.{Layout, laid, filled, gapless}
 use Rattle.exact.proofs.Layouts.{within, filled-laid}
-use Rattle.refusals.specs.Tables.{Line, firstOf, also, after}
+use Rattle.refusals.specs.Tables.{Line, firstOf, also, followedBy}
 use Rattle.records.specs.House.{houseForm, bufferLines}
 use Rattle.refusals.specs.declared.refusal.Refusal.the-variants.{Buffer}
 use Rattle.refusals.specs.declared.verdict.Verdict.{Verdict}
@@ -29,7 +29,7 @@ module _ {S : Type 0} (n version : ℕ) (layout : Layout S) (s : S) where
 
 -- the buffer's verdict and then the fields' are the table's
 pub by-buffer : (n : ℕ) (out : List ℕ) (lines : List Line) {buffer fields verdict : Verdict}
-    → buffer ≡ also Fine (not (eqb (length out) n)) Buffer → fields ≡ firstOf lines → verdict ≡ after buffer fields
+    → buffer ≡ also Fine (not (eqb (length out) n)) Buffer → fields ≡ firstOf lines → verdict ≡ followedBy buffer fields
     → verdict ≡ firstOf (bufferLines n out ++ lines)
 by-buffer n out lines b f v =
     followed (bufferLines n out) lines (b ∙ chained (bufferLines n out)) f v

@@ -4,7 +4,7 @@ use Prim.Native.Nat.{ℕ}
 use mathlib.Core.Bool.{Bool, true, false}
 use mathlib.Core.List.{List, [], _∷_, _++_}
 use native.Mathlib.Omega.{arith}
-use Rattle.refusals.specs.Tables.{Line, when, firstOf, also, after}
+use Rattle.refusals.specs.Tables.{Line, when, firstOf, also, followedBy}
 use Rattle.refusals.specs.declared.refusal.Refusal.{Refusal}
 use Rattle.refusals.specs.declared.verdict.Verdict.{Verdict}
 use Rattle.refusals.specs.declared.verdict.Verdict.the-variants.{Fine, Refuse}
@@ -24,19 +24,19 @@ chained (when true r ∷ t) = kept r t
 chained (when false r ∷ t) = chained t
 
 -- two tables, one after the other
-pub joined : (t u : List Line) → firstOf (t ++ u) ≡ after (firstOf t) (firstOf u)
+pub joined : (t u : List Line) → firstOf (t ++ u) ≡ followedBy (firstOf t) (firstOf u)
 joined [] u = refl
 joined (when true r ∷ t) u = refl
 joined (when false r ∷ t) u = joined t u
 
 -- a verdict after another is that of the two tables
-pub followed : (t u : List Line) {v w verdict : Verdict} → v ≡ firstOf t → w ≡ firstOf u → verdict ≡ after v w → verdict ≡ firstOf (t ++ u)
-followed t u e f both = both ∙ ap₂ after e f ∙ sym (joined t u)
+pub followed : (t u : List Line) {v w verdict : Verdict} → v ≡ firstOf t → w ≡ firstOf u → verdict ≡ followedBy v w → verdict ≡ firstOf (t ++ u)
+followed t u e f both = both ∙ ap₂ followedBy e f ∙ sym (joined t u)
 
 fine-not : {r : Refusal} → Refuse r ≡ Fine → ⊥
 fine-not e = let z : _≡_ {A = ℕ} 0 1 = cc in omega arith
 
-both-fine : (v w : Verdict) → after v w ≡ Fine → (v ≡ Fine) × (w ≡ Fine)
+both-fine : (v w : Verdict) → followedBy v w ≡ Fine → (v ≡ Fine) × (w ≡ Fine)
 both-fine Fine w e = (refl, e)
 both-fine (Refuse r) w e = absurd (fine-not e)
 

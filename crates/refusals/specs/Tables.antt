@@ -22,6 +22,6 @@ also Fine true why = Refuse why
 also Fine false why = Fine
 
 -- one verdict after another
-abbrev pub after : Verdict → Verdict → Verdict
-after (Refuse first) next = Refuse first
-after Fine next = next
+abbrev pub followedBy : Verdict → Verdict → Verdict
+followedBy (Refuse first) next = Refuse first
+followedBy Fine next = next

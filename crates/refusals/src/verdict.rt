@@ -1,6 +1,6 @@
 // What a row of tests comes to: the first refusal, or nothing to refuse.
 ghost use mathlib.Core.Path.{_≡_};
-ghost use Rattle.refusals.specs.Tables.{also, after};
+ghost use Rattle.refusals.specs.Tables.{also, followedBy};
 use crate::refusal::Refusal;
 
 pub enum Verdict {
@@ -27,7 +27,7 @@ impl Verdict {
 
     // Another verdict after this one; an earlier refusal stands.
     pub fn then(self, next: Verdict) -> Verdict
-        ensures { λ r. ⌜ r ≡ after self next ⌝ }
+        ensures { λ r. ⌜ r ≡ followedBy self next ⌝ }
     {
         match self {
             Verdict::Refuse(earlier) => Verdict::Refuse(earlier),

@@ -6,7 +6,7 @@ use mathlib.Core.List.{List, [], _∷_}
 use Rattle.tool06.specs.Rules.{Rule, RuleLine, when, first}
 use Rattle.rules.specs.declared.rule.Found.{Found}
 use Rattle.rules.specs.declared.rule.Found.the-variants.{Nothing, Rule as Number}
-use Rattle.rules.specs.Found.{orIf, otherwise}
+use Rattle.rules.specs.scaffold.Found.{orIf, otherwise}
 
 -- the tests one after the other, as the code makes them
 abbrev pub found : Found → List RuleLine → Found

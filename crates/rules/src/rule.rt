@@ -1,7 +1,7 @@
 // The first rule that applies, by its number.
 ghost use mathlib.Core.Path.{_≡_};
 ghost use Rattle.exact.specs.Ranges.{outside, outsideZ};
-ghost use Rattle.rules.specs.Found.{orIf, otherwise};
+ghost use Rattle.rules.specs.scaffold.Found.{orIf, otherwise};
 ghost use Rattle.tool06.specs.Rules.{theRule};
 use minute::Minute;
 use site::Flows;
@@ -58,24 +58,23 @@ fn flow_unfit(range: Flows, litres: u32) -> bool
 pub fn rule_of(site: Site, minute: Minute, in_time: bool) -> u8
     ensures { λ r. ⌜ r ≡ theRule site minute in_time .number ⌝ }
 {
-    let flags = minute.flags;
     let litres = minute.litres;
+    let lit = minute.has(Minute::FLAME);
+    let felt = minute.has(Minute::TEMPERATURE);
+    let read = minute.has(Minute::EXHAUST);
     let open = site.is_open();
     let celsius_unfit = temperature_unfit(site.temperature, minute.temperature);
     let litres_unfit = flow_unfit(site.flow, litres);
     let default = site.method == Site::DEFAULT;
     Found::Nothing
         .or_if(!(0 < litres), Figures::NO_GAS)
-        .or_if(!(flags / Minute::FLAME % 2 == 1), Figures::NO_FLAME)
+        .or_if(!lit, Figures::NO_FLAME)
         .or_if(open, Figures::OPEN)
-        .or_if(
-            !(flags / Minute::TEMPERATURE % 2 == 1),
-            Figures::NO_TEMPERATURE,
-        )
+        .or_if(!felt, Figures::NO_TEMPERATURE)
         .or_if(celsius_unfit, Figures::TEMPERATURE)
         .or_if(litres_unfit, Figures::FLOW)
         .or_if(default, Figures::DEFAULT)
         .or_if(!in_time, Figures::OVERDUE)
-        .or_if(!(flags / Minute::EXHAUST % 2 == 1), Figures::NO_EXHAUST)
+        .or_if(!read, Figures::NO_EXHAUST)
         .otherwise(Figures::MEASURED)
 }

@@ -1,13 +1,15 @@
 -- Document 01, "Records" and "Numbers a caller gets back": the ranges of a site's fields, and its refusals 3 to 9 in their order.
 use Prim.Native.Nat.{ℕ, _*_, _%_}
+use mathlib.Core.Path.{_≡_}
 use mathlib.Core.Bool.{Bool, true, false, _||_, _&&_, not}
 use mathlib.Core.List.{List, [], _∷_}
 use lib.Dec.{ltb, leb, eqb}
 use lib.Signed.{ltZ}
 use Rattle.exact.specs.Ranges.{above, outside}
 use Rattle.records.specs.Ranges.{temperatureOutside, flowOutside}
-use Rattle.refusals.specs.Tables.{Line, when}
+use Rattle.refusals.specs.Tables.{Line, when, firstOf}
 use Rattle.refusals.specs.declared.refusal.Refusal.the-variants.{Method, Year, Gwp, Size, Spec, Open, Schedule}
+use Rattle.refusals.specs.declared.verdict.Verdict.the-variants.{Fine}
 use Rattle.site.specs.declared.Temperatures.{Temperatures}
 use Rattle.site.specs.declared.Flows.{Flows}
 use Rattle.site.specs.declared.Site.{Site}
@@ -67,3 +69,7 @@ siteLines s =
     ∷ when (isMeasured s && isOpen s) Open
     ∷ when (scheduleWrong s) Schedule
     ∷ []
+
+-- none of 3 to 9
+abbrev pub Examined : Site → Type 0
+Examined s = firstOf (siteLines s) ≡ Fine

@@ -71,6 +71,9 @@ impl Site {
 
     pub const MOST_DAYS: u16 = 3_660;
 
+    // Days since maintenance where there was none.
+    pub const NEVER: u16 = 65_535;
+
     // An enclosure of at most so many diameters is open, and one of at most so many is low.
     pub const OPEN_DIAMETERS: u64 = 2;
 

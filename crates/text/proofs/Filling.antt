@@ -5,7 +5,7 @@ use mathlib.Core.List.{List}
 use native.Mathlib.Omega.{arith}
 use lib.ListN.{length, set, length-set}
 use Rattle.exact.specs.Bytes.{put}
-use Rattle.text.specs.Places.{Written}
+use Rattle.text.specs.Places.{PutFrom}
 use Rattle.text.specs.Text.{digit, decimal}
 use Rattle.text.proofs.Decimals.{last, length-last, last-one, last-two, decimal-last, decimal-within}
 use Rattle.text.proofs.Putting.{put-end, put-pair}
@@ -67,6 +67,6 @@ module _ {out₀ out : List ℕ} {at n left rest : ℕ} (l : Left out₀ at n ou
   none-left e = sym (no-last out at left rest e) ∙ l .whole
 
 -- all digits are there, and the place after them is at most 20 on
-pub shown : {b b' : List ℕ} {at count : ℕ} (n : ℕ) → count ≡ length (decimal n) → b' ≡ put b at (decimal n) → Written b at (decimal n) b' (at + count) × (at + count ≤ at + 20)
+pub shown : {b b' : List ℕ} {at count : ℕ} (n : ℕ) → count ≡ length (decimal n) → b' ≡ put b at (decimal n) → PutFrom b at (decimal n) b' (at + count) × (at + count ≤ at + 20)
 shown {at = at} {count = count} n e holds =
     (record { holds = holds; place = ap (λ (k : ℕ). at + k) e }, omega (arith, e, decimal-within n))

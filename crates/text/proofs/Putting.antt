@@ -7,7 +7,7 @@ use native.Mathlib.Omega.{arith}
 use lib.ListN.{length, set, length-append}
 use lib.Seq.{set-comm}
 use Rattle.exact.specs.Bytes.{put}
-use Rattle.text.specs.Places.{Written}
+use Rattle.text.specs.Places.{PutFrom}
 
 put-put : (b : List ℕ) (k : ℕ) (xs ys : List ℕ) → put (put b k xs) (k + length xs) ys ≡ put b k (xs ++ ys)
 unfolding put
@@ -39,7 +39,7 @@ put-pair b k xs x y =
     ∙ put-set (set b i x) k xs (i + 1) y (omega arith)
 
 -- a piece, and one more behind it
-pub onward : {b b' b'' xs ys : List ℕ} {at next end : ℕ} → Written b at xs b' next → Written b' next ys b'' end → Written b at (xs ++ ys) b'' end
+pub onward : {b b' b'' xs ys : List ℕ} {at next end : ℕ} → PutFrom b at xs b' next → PutFrom b' next ys b'' end → PutFrom b at (xs ++ ys) b'' end
 onward {b = b} {xs = xs} {ys = ys} {at = at} p q =
     record {
       holds = q .holds ∙ rw (p .holds, p .place) (put-put b at xs ys);

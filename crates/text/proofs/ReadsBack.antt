@@ -4,11 +4,11 @@ use mathlib.Core.Path.{_≡_, refl, _∙_}
 use mathlib.Core.List.{List, [], _∷_, _++_}
 use native.Mathlib.Nat.{pow-suc}
 use native.Mathlib.Omega.{arith}
-use Rattle.text.specs.Promises.{after, value, ReadsBack}
+use Rattle.text.specs.Promises.{valueAfter, value, DecimalsReadBack}
 use Rattle.text.specs.Text.{digit, digits, decimal}
 use Rattle.text.proofs.Decimals.{by-digits}
 
-after-last : (a : ℕ) (ds : List ℕ) (d : ℕ) → after a (ds ++ (d ∷ [])) ≡ after a ds * 10 + (d - 48)
+after-last : (a : ℕ) (ds : List ℕ) (d : ℕ) → valueAfter a (ds ++ (d ∷ [])) ≡ valueAfter a ds * 10 + (d - 48)
 after-last a [] d = refl
 after-last a (x ∷ ds) d = after-last (a * 10 + (x - 48)) ds d
 
@@ -25,6 +25,6 @@ value-digits (suc k) n h =
     let less = value-digits k (n / 10) (omega (arith, pow-suc 10 k)) in
     after-last 0 (digits k (n / 10)) (digit (n % 10)) ∙ omega (arith, less))
 
-pub reads-back : ReadsBack
+pub reads-back : DecimalsReadBack
 unfolding decimal
 reads-back n h = value-digits 20 n (omega arith)

@@ -6,6 +6,6 @@ use lib.ListN.{length}
 use Rattle.exact.specs.Bytes.{put}
 
 -- text put from a place on: what the buffer then holds, and the place after the text
-pub record Written (buffer : List ℕ) (at : ℕ) (text : List ℕ) (after : List ℕ) (next : ℕ) : Type 0 where
+pub record PutFrom (buffer : List ℕ) (at : ℕ) (text : List ℕ) (after : List ℕ) (next : ℕ) : Type 0 where
   pub holds : after ≡ put buffer at text
   pub place : next ≡ at + length text

@@ -5,13 +5,13 @@ use mathlib.Core.List.{List, [], _∷_}
 use Rattle.text.specs.Text.{decimal}
 
 -- the number that digits spell after those that spell a
-abbrev pub after : ℕ → List ℕ → ℕ
-after a [] = a
-after a (d ∷ ds) = after (a * 10 + (d - 48)) ds
+abbrev pub valueAfter : ℕ → List ℕ → ℕ
+valueAfter a [] = a
+valueAfter a (d ∷ ds) = valueAfter (a * 10 + (d - 48)) ds
 
 -- the number that digits spell
 abbrev pub value : List ℕ → ℕ
-value ds = after 0 ds
+value ds = valueAfter 0 ds
 
-abbrev pub ReadsBack : Type 0
-ReadsBack = (n : ℕ) → n < 2 ^ 64 → value (decimal n) ≡ n
+abbrev pub DecimalsReadBack : Type 0
+DecimalsReadBack = (n : ℕ) → n < 2 ^ 64 → value (decimal n) ≡ n

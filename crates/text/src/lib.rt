@@ -3,7 +3,7 @@ ghost use mathlib.Core.Path.{_≡_};
 ghost use Prim.Native.Nat.{_+_, _≤_};
 ghost use lib.ListN.{length};
 ghost use Rattle.exact.specs.Bytes.{put};
-ghost use Rattle.text.specs.Places.{Written};
+ghost use Rattle.text.specs.Places.{PutFrom};
 ghost use Rattle.text.specs.Text.{decimal};
 
 // How many digits n has in decimal.
@@ -59,7 +59,7 @@ fn put_long(out: &mut [u8], at: usize, n: u64, count: usize)
 
 pub fn put_decimal(out: &mut [u8], at: usize, n: u64) -> usize
     requires { ⌜ at + 20 ≤ length (now out) ⌝ }
-    ensures { λ r. ⌜ Written (now (out .entry)) at (decimal n) (now (out .exit)) r ⌝ }
+    ensures { λ r. ⌜ PutFrom (now (out .entry)) at (decimal n) (now (out .exit)) r ⌝ }
     ensures within { λ r. ⌜ r ≤ at + 20 ⌝ }
 {
     let count = places(n);
@@ -75,7 +75,7 @@ pub fn put_decimal(out: &mut [u8], at: usize, n: u64) -> usize
 
 pub fn put_text(out: &mut [u8], at: usize, text: &[u8]) -> usize
     requires { ⌜ at + length (now text) ≤ length (now out) ⌝ }
-    ensures { λ r. ⌜ Written (now (out .entry)) at (now (text .entry)) (now (out .exit)) r ⌝ }
+    ensures { λ r. ⌜ PutFrom (now (out .entry)) at (now (text .entry)) (now (out .exit)) r ⌝ }
 {
     let mut i: usize = 0;
     while i < text.len() {

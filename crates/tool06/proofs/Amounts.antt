@@ -16,6 +16,7 @@ use Rattle.refusals.specs.Tables.{firstOf}
 use Rattle.refusals.specs.declared.verdict.Verdict.{Verdict}
 use Rattle.refusals.specs.declared.verdict.Verdict.the-variants.{Fine, Refuse}
 use Rattle.records.specs.House.{answered}
+use Rattle.site.specs.Rules.{Examined}
 use Rattle.site.specs.declared.Site.{Site}
 use Rattle.minute.specs.Rules.{hasGas}
 use Rattle.minute.specs.declared.Minute.{Minute}
@@ -24,7 +25,7 @@ use Rattle.tool06.specs.declared.figures.Judged.the-variants.{Accepted, 
 use Rattle.tool06.specs.Class.{classOf}
 use Rattle.tool06.specs.Figures.{mg, η, exactFed, exactEmitted, exactDestroyed, figures}
 use Rattle.tool06.specs.Judged.{judgedLines, judged}
-use Rattle.tool06.specs.Nanograms.{choose, lostTenths, lost, xBy, dBy, emittedNg, figuresNg, judgedNg}
+use Rattle.tool06.specs.scaffold.Nanograms.{choose, lostTenths, lost, xBy, dBy, emittedNg, figuresNg, judgedNg}
 use Rattle.tool06.specs.Rules.{theRule}
 use Rattle.tool06.specs.Short.{D, F-RG-ng}
 use Rattle.tool06.specs.Tool.{Masses, Positive, F-CH4-RG}
@@ -147,10 +148,10 @@ same-figures m pos {s} {n} f inTime = by-gas (hasGas n) refl
     by-gas true gas = same-with-gas m pos f gas inTime
     by-gas false none = same-without-gas m s n none inTime (f .oxygen)
 
-pub same-judged : (m : Masses) → Positive m → (disordered : Bool) (s : Site) (n : Minute) (inTime : Bool) → judgedNg disordered s n inTime ≡ judged m disordered s n inTime
+pub same-judged : (m : Masses) → Positive m → (disordered : Bool) (s : Site) (n : Minute) (inTime : Bool) → Examined s → judgedNg disordered s n inTime ≡ judged m disordered s n inTime
 unfolding judged judgedNg
-same-judged m pos disordered s n inTime = by-verdict (firstOf (judgedLines disordered s n)) refl
+same-judged m pos disordered s n inTime examined = by-verdict (firstOf (judgedLines disordered s n)) refl
   where
     by-verdict : (v : Verdict) → firstOf (judgedLines disordered s n) ≡ v → answered Accepted Refused (figuresNg s n inTime) v ≡ answered Accepted Refused (figures m s n inTime) v
-    by-verdict Fine fine = ap Accepted (same-figures m pos (facts disordered s n fine) inTime)
+    by-verdict Fine fine = ap Accepted (same-figures m pos (facts disordered s n examined fine) inTime)
     by-verdict (Refuse r) refused = refl

@@ -20,7 +20,7 @@ use Rattle.minute.specs.declared.Minute.{Minute}
 use Rattle.tool06.specs.declared.class.Class.{Class}
 use Rattle.tool06.specs.declared.class.Class.the-variants.{Open, Low, Tall}
 use Rattle.tool06.specs.Class.{classOf}
-use Rattle.tool06.specs.Nanograms.{lowTenth, lostTenths, xBy, dBy}
+use Rattle.tool06.specs.scaffold.Nanograms.{lowTenth, lostTenths, xBy, dBy}
 use Rattle.tool06.specs.Rules.{Rule, rule, lowered, measured, ruleLines, theRule}
 use Rattle.tool06.specs.Short.{K, D, F-RG-ng, five-LKf}
 use Rattle.tool06.specs.Tool.{Masses, Positive, v, V-RG, ρ-CH4, F-CH4-RG, F-CH4-EG, η-calc}

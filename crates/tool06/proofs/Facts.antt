@@ -2,7 +2,6 @@
 use mathlib.Core.Path.{_≡_, refl}
 use mathlib.Core.Logic.{⊎-elim}
 use mathlib.Core.Bool.{Bool, true, false, _&&_, _||_, not}
-use mathlib.Core.List.{_++_}
 use Prim.Native.Nat.{ℕ, zero, suc, _*_, _≤_, _<_}
 use lib.Dec.{eqb}
 use native.Mathlib.Omega.{arith}
@@ -13,13 +12,13 @@ use Rattle.exact.proofs.Rounding.{mul-within}
 use Rattle.refusals.specs.Tables.{firstOf}
 use Rattle.refusals.specs.declared.verdict.Verdict.the-variants.{Fine}
 use Rattle.refusals.proofs.Tables.{split, none}
-use Rattle.site.specs.Rules.{isDefault, isMeasured, siteLines}
+use Rattle.site.specs.Rules.{isDefault, isMeasured, siteLines, Examined}
 use Rattle.site.specs.declared.Site.{Site}
-use Rattle.minute.specs.Rules.{hasGas, exhaustPresent, total, fractionOver, compositionWrong, minuteLines}
+use Rattle.minute.specs.Rules.{hasGas, exhaustPresent, fractionSum, fractionOver, compositionWrong, minuteLines}
 use Rattle.minute.specs.declared.gas.Gas.{Gas}
 use Rattle.minute.specs.declared.Minute.{Minute}
 use Rattle.tool06.specs.Judged.{oxygenLines, judgedLines}
-use Rattle.tool06.specs.Nanograms.{Measurable}
+use Rattle.tool06.specs.scaffold.Nanograms.{Measurable}
 use Rattle.tool06.specs.Rules.{rule, measured, ruleLines, theRule}
 use Rattle.tool06.specs.Short.{S-plus, S-minus, S-negative, F-RG-ng}
 use Rattle.tool06.proofs.Rules.{by-turns}
@@ -28,15 +27,15 @@ use Rattle.tool06.proofs.Short.{K-positive}
 pub record Facts (s : Site) (n : Minute) : Type 0 where
   pub method : isDefault s ≡ false → isMeasured s ≡ true
   pub flow : n .litres ≤ 100000
-  pub composition : hasGas n ≡ true → total (n .gas) ≡ 1000000
+  pub composition : hasGas n ≡ true → fractionSum (n .gas) ≡ 1000000
   pub some-methane : hasGas n ≡ true → 0 < n .gas .ch4
   pub oxygen : n .exhaust .oxygen ≤ 209999
   pub methane : n .exhaust .methane ≤ 50000
   pub air : hasGas n ≡ true → isMeasured s ≡ true → exhaustPresent n ≡ true → S-minus (n .gas) ≤ S-plus (n .gas)
 
-whole-gas : (g : Gas) → compositionWrong g ≡ false → total g ≡ 1000000
+whole-gas : (g : Gas) → compositionWrong g ≡ false → fractionSum g ≡ 1000000
 unfolding compositionWrong
-whole-gas g e = eqb-true (total g) 1000000 (not-false (eqb (total g) 1000000) (or-false (fractionOver g) _ e .1))
+whole-gas g e = eqb-true (fractionSum g) 1000000 (not-false (eqb (fractionSum g) 1000000) (or-false (fractionOver g) _ e .1))
 
 not-none : (ch4 : ℕ) (a b c d : Bool) → (eqb ch4 0 || a || b || c || d) ≡ false → 0 < ch4
 not-none zero a b c d e = absurd (eqb-false 0 0 (or-false _ a (or-false _ b (or-false _ c (or-false _ d e .0) .0) .0) .0) refl)
@@ -53,16 +52,15 @@ readings present o m e =
     within : (a b : ℕ) → (above a o || above b m) ≡ false → (o ≤ a) × (m ≤ b)
     within a b w = let e = or-false (above a o) (above b m) w in (ltb-false a o (e .0), ltb-false b m (e .1))
 
-pub facts : (disordered : Bool) (s : Site) (n : Minute) → firstOf (judgedLines disordered s n) ≡ Fine → Facts s n
+pub facts : (disordered : Bool) (s : Site) (n : Minute) → Examined s → firstOf (judgedLines disordered s n) ≡ Fine → Facts s n
 unfolding siteLines minuteLines
-facts disordered s n fine =
-    let all = split (siteLines s ++ minuteLines disordered n) (oxygenLines s n) fine in
-    let parts = split (siteLines s) (minuteLines disordered n) (all .0) in
-    let fields = none (minuteLines disordered n) (parts .1) in
+facts disordered s n examined fine =
+    let all = split (minuteLines disordered n) (oxygenLines s n) fine in
+    let fields = none (minuteLines disordered n) (all .0) in
     let exhaust = readings (exhaustPresent n) (n .exhaust .oxygen) (n .exhaust .methane) (fields .1 .1 .1 .1 .1 .1 .0) in
     let oxygen = none (oxygenLines s n) (all .1) .0 in
     record {
-      method = other (isDefault s) (isMeasured s) (none (siteLines s) (parts .0) .0);
+      method = other (isDefault s) (isMeasured s) (none (siteLines s) examined .0);
       flow = ltb-false 100000 (n .litres) (fields .1 .1 .0);
       composition = λ gas. whole-gas (n .gas) (and-false (hasGas n) _ (fields .1 .1 .1 .0) gas);
       some-methane = λ gas. not-none (n .gas .ch4) _ _ _ _ (and-false (hasGas n) _ (fields .1 .1 .1 .1 .0) gas);
@@ -77,8 +75,7 @@ facts disordered s n fine =
 pub in-order : (disordered : Bool) (s : Site) (n : Minute) → firstOf (judgedLines disordered s n) ≡ Fine → disordered ≡ false
 unfolding minuteLines
 in-order disordered s n fine =
-    let all = split (siteLines s ++ minuteLines disordered n) (oxygenLines s n) fine in
-    none (minuteLines disordered n) (split (siteLines s) (minuteLines disordered n) (all .0) .1) .1 .0
+    none (minuteLines disordered n) (split (minuteLines disordered n) (oxygenLines s n) fine .0) .1 .0
 
 pub has-gas : (n : Minute) → hasGas n ≡ true → 0 < n .litres
 has-gas n gas = ltb-true 0 (n .litres) gas

@@ -7,3 +7,4 @@ pub mod Rules
 pub mod Short
 pub mod Sizes
 pub mod Sums
+pub mod Year

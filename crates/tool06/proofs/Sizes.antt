@@ -13,7 +13,7 @@ use Rattle.minute.specs.Rules.{hasGas}
 use Rattle.minute.specs.declared.Minute.{Minute}
 use Rattle.tool06.specs.Bounds.{Entry, IsAccepted, figuresOf, oneIf, gasOf}
 use Rattle.tool06.specs.Figures.{figures}
-use Rattle.tool06.specs.Nanograms.{figuresNg}
+use Rattle.tool06.specs.scaffold.Nanograms.{figuresNg}
 use Rattle.tool06.specs.Rules.{RuleLine, rule, measured, ruleLines, theRule}
 use Rattle.tool06.specs.Short.{F-RG-ng}
 use Rattle.tool06.specs.Tool.{Masses, Positive}
@@ -62,11 +62,11 @@ unfolding figuresNg
 fed-most m pos e fine = by-gas (hasGas (e .minute)) refl
   where
     within : ceilDiv (F-RG-ng (e .minute)) 1000000 ≤ 71600000
-    within = ceil-le (F-RG-ng (e .minute)) 1000000 71600000 (omega arith) .1 (let h = fed-within (facts false (e .site) (e .minute) fine) in omega arith)
+    within = ceil-le (F-RG-ng (e .minute)) 1000000 71600000 (omega arith) .1 (let h = fed-within (facts false (e .site) (e .minute) (fine .0) (fine .1)) in omega arith)
 
     most : figuresNg (e .site) (e .minute) (e .inTime) .fed ≤ 71600000
     most = within
 
     by-gas : (gas : Bool) → hasGas (e .minute) ≡ gas → figuresOf m e .fed ≤ oneIf gas * 71600000
-    by-gas true gas = rw (← same-figures m pos (facts false (e .site) (e .minute) fine) (e .inTime)) most
+    by-gas true gas = rw (← same-figures m pos (facts false (e .site) (e .minute) (fine .0) (fine .1)) (e .inTime)) most
     by-gas false none = let z = one-minute m pos e fine .no-gas (rw none refl) .0 in omega arith

@@ -2,8 +2,9 @@ pub mod Bounds
 pub mod Class
 pub mod Figures
 pub mod Judged
-pub mod Nanograms
 pub mod Promises
 pub mod Rules
 pub mod Short
 pub mod Tool
+pub mod Year
+pub mod scaffold

@@ -36,6 +36,21 @@ impl Figures {
 
     pub const MEASURED: u8 = 9;
 
+    // How many rules there are.
+    pub const RULES: usize = 10;
+
+    // The tenths of the methane fed that a rule takes for lost: at an open flare, by default, and where the flare does not work; and those that a low flare loses beside the last two.
+    pub const OPEN_TENTHS: u64 = 5;
+
+    pub const DEFAULT_TENTHS: u64 = 1;
+
+    pub const LOW_TENTHS: u64 = 1;
+
+    pub const ALL_TENTHS: u64 = 10;
+
+    // Of the answer to the C call: three figures of eight bytes, and the rule.
+    pub const ANSWER_BYTES: usize = 25;
+
     // The oxygen in air, in ppm.
     pub const AIR_OXYGEN: u32 = 210_000;
 

@@ -11,14 +11,14 @@ abbrev pub isDigit : ℕ → Bool
 isDigit c = leb 48 c && leb c 57
 
 -- digits after those that spell a; a number above the most that may stand there is none
-unfoldable pub spelled : ℕ → ℕ → List ℕ → Number
-spelled most a [] = cond (leb a most) (Is a) Wrong
-spelled most a (c ∷ cs) = cond (isDigit c) (spelled most (a * 10 + (c - 48)) cs) Wrong
+unfoldable pub spelledOn : ℕ → ℕ → List ℕ → Number
+spelledOn most a [] = cond (leb a most) (Is a) Wrong
+spelledOn most a (c ∷ cs) = cond (isDigit c) (spelledOn most (a * 10 + (c - 48)) cs) Wrong
 
 -- at least one digit
-unfoldable pub numberOf : ℕ → List ℕ → Number
-numberOf most [] = Wrong
-numberOf most (c ∷ cs) = spelled most 0 (c ∷ cs)
+unfoldable pub numberIn : ℕ → List ℕ → Number
+numberIn most [] = Wrong
+numberIn most (c ∷ cs) = spelledOn most 0 (c ∷ cs)
 
 -- a number below zero as two bytes hold it
 unfoldable pub negative : Number → Number
@@ -28,4 +28,4 @@ negative Wrong = Wrong
 -- -32768 to 32767, with "-" before a number below zero
 unfoldable pub signedOf : List ℕ → Number
 signedOf [] = Wrong
-signedOf (c ∷ cs) = cond (eqb c 45) (negative (numberOf 32768 cs)) (numberOf 32767 (c ∷ cs))
+signedOf (c ∷ cs) = cond (eqb c 45) (negative (numberIn 32768 cs)) (numberIn 32767 (c ∷ cs))

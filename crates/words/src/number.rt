@@ -2,7 +2,7 @@
 ghost use mathlib.Core.Path.{_≡_};
 ghost use mathlib.Core.Bool.{true};
 ghost use Prim.Native.Nat.{_-_, _≤_};
-ghost use Rattle.words.specs.Numbers.{isDigit, numberOf, negative, signedOf};
+ghost use Rattle.words.specs.Numbers.{isDigit, numberIn, negative, signedOf};
 
 pub enum Number {
     Is(u32),
@@ -27,7 +27,7 @@ fn units(c: u8) -> u64
 
 // The number that the word spells, where it is at most so much.
 pub fn number_in(word: &[u8], most: u32) -> Number
-    ensures { λ r. ⌜ r ≡ numberOf most (now (word .entry)) ⌝ }
+    ensures { λ r. ⌜ r ≡ numberIn most (now (word .entry)) ⌝ }
 {
     if word.len() == 0 {
         return Number::Wrong;

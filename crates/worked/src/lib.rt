@@ -1,6 +1,6 @@
 // The examples of document 01 that are marked to be proved, in one table.
 ghost use mathlib.Core.Path.{_≡_};
-ghost use Rattle.worked.specs.Table.{flare, gas, burning, unread, read, mg, line, table};
+ghost use Rattle.worked.specs.Table.{flare, gas, reading, answers, line, table};
 use minute::Gas;
 use minute::Minute;
 use minute::Readings;
@@ -56,10 +56,14 @@ fn gas(ch4: u32, co2: u32, o2: u32, n2: u32) -> Gas
     }
 }
 
-// At 800 degrees, inside the specification.
-fn burning(flags: u8, litres: u32, gas: Gas, exhaust: Readings) -> Minute
-    ensures { λ r. ⌜ r ≡ burning flags litres gas exhaust ⌝ }
+// At 800 degrees, inside the specification, with exhaust oxygen of 90,000 ppm.
+fn reading(flags: u8, litres: u32, gas: Gas, methane: u32) -> Minute
+    ensures { λ r. ⌜ r ≡ reading flags litres gas methane ⌝ }
 {
+    let exhaust = Readings {
+        oxygen: 90_000,
+        methane: methane,
+    };
     Minute {
         number: 0,
         flags: flags,
@@ -70,29 +74,8 @@ fn burning(flags: u8, litres: u32, gas: Gas, exhaust: Readings) -> Minute
     }
 }
 
-fn unread(flags: u8, litres: u32, gas: Gas) -> Minute
-    ensures { λ r. ⌜ r ≡ unread flags litres gas ⌝ }
-{
-    let none = Readings {
-        oxygen: 0,
-        methane: 0,
-    };
-    burning(flags, litres, gas, none)
-}
-
-// With exhaust oxygen of 90,000 ppm.
-fn read(gas: Gas, methane: u32) -> Minute
-    ensures { λ r. ⌜ r ≡ read gas methane ⌝ }
-{
-    let exhaust = Readings {
-        oxygen: 90_000,
-        methane: methane,
-    };
-    burning(Minute::FLAGS, 1_000, gas, exhaust)
-}
-
-fn mg(rule: u8, fed: u64, emitted: u64, destroyed: u64) -> Judged
-    ensures { λ r. ⌜ r ≡ mg rule fed emitted destroyed ⌝ }
+fn answers(rule: u8, fed: u64, emitted: u64, destroyed: u64) -> Judged
+    ensures { λ r. ⌜ r ≡ answers rule fed emitted destroyed ⌝ }
 {
     Judged::Accepted(Figures {
         rule: rule,
@@ -112,37 +95,63 @@ fn line(site: Site, minute: Minute, answer: Judged) -> Example
     }
 }
 
-// The document's lines, in its order; m is for measured.
+// The document's lines, in its order.
 pub fn examples() -> [Example; 12]
     ensures { λ r. ⌜ r ≡ table ⌝ }
 {
     let open = flare(Site::DEFAULT, 2_000);
-    let low = flare(Site::DEFAULT, 10_000);
-    let tall = flare(Site::DEFAULT, 10_001);
-    let low_m = flare(Site::MEASURED, 10_000);
-    let tall_m = flare(Site::MEASURED, 10_001);
+    let low_default = flare(Site::DEFAULT, 10_000);
+    let tall_default = flare(Site::DEFAULT, 10_001);
+    let low_measured = flare(Site::MEASURED, 10_000);
+    let tall_measured = flare(Site::MEASURED, 10_001);
     let g = gas(600_000, 400_000, 0, 0);
-    let lit = unread(Minute::FLAME + Minute::TEMPERATURE, 1_000, g);
-    let unlit = unread(Minute::TEMPERATURE, 1_000, g);
-    let odd = gas(500_001, 0, 0, 499_999);
-    let litre = unread(Minute::FLAME + Minute::TEMPERATURE, 1, odd);
-    let f100 = read(g, 100);
-    let f40000 = read(g, 40_000);
-    let f50000 = read(g, 50_000);
-    let even = read(gas(100_000, 0, 200_000, 700_000), 100);
-    let airy = read(gas(100_000, 0, 200_001, 699_999), 100);
+    let lit = reading(Minute::FLAGS, 1_000, g, 100);
+    let unlit = reading(Minute::TEMPERATURE + Minute::EXHAUST, 1_000, g, 100);
+    let litre = reading(Minute::FLAGS, 1, gas(500_001, 0, 0, 499_999), 100);
+    let f40000 = reading(Minute::FLAGS, 1_000, g, 40_000);
+    let f50000 = reading(Minute::FLAGS, 1_000, g, 50_000);
+    let even = reading(Minute::FLAGS, 1_000, gas(100_000, 0, 200_000, 700_000), 100);
+    let airy = reading(Minute::FLAGS, 1_000, gas(100_000, 0, 200_001, 699_999), 100);
     [
-        line(open, lit, mg(Figures::OPEN, 429_600, 214_800, 214_800)),
-        line(open, unlit, mg(Figures::NO_FLAME, 429_600, 429_600, 0)),
-        line(tall, lit, mg(Figures::DEFAULT, 429_600, 42_960, 386_640)),
-        line(low, lit, mg(Figures::DEFAULT, 429_600, 85_920, 343_680)),
-        line(open, litre, mg(Figures::OPEN, 359, 180, 179)),
-        line(tall, litre, mg(Figures::DEFAULT, 359, 36, 322)),
-        line(tall_m, f100, mg(Figures::MEASURED, 429_600, 965, 428_635)),
-        line(low_m, f100, mg(Figures::MEASURED, 429_600, 43_925, 385_675)),
-        line(tall_m, f50000, mg(Figures::MEASURED, 429_600, 429_600, 0)),
-        line(low_m, f40000, mg(Figures::MEASURED, 429_600, 428_960, 640)),
-        line(tall_m, even, mg(Figures::MEASURED, 71_600, 140, 71_460)),
-        line(tall_m, airy, Judged::Refused(Refusal::Oxygen)),
+        line(open, lit, answers(Figures::OPEN, 429_600, 214_800, 214_800)),
+        line(open, unlit, answers(Figures::NO_FLAME, 429_600, 429_600, 0)),
+        line(
+            tall_default,
+            lit,
+            answers(Figures::DEFAULT, 429_600, 42_960, 386_640),
+        ),
+        line(
+            low_default,
+            lit,
+            answers(Figures::DEFAULT, 429_600, 85_920, 343_680),
+        ),
+        line(open, litre, answers(Figures::OPEN, 359, 180, 179)),
+        line(tall_default, litre, answers(Figures::DEFAULT, 359, 36, 322)),
+        line(
+            tall_measured,
+            lit,
+            answers(Figures::MEASURED, 429_600, 965, 428_635),
+        ),
+        line(
+            low_measured,
+            lit,
+            answers(Figures::MEASURED, 429_600, 43_925, 385_675),
+        ),
+        line(
+            tall_measured,
+            f50000,
+            answers(Figures::MEASURED, 429_600, 429_600, 0),
+        ),
+        line(
+            low_measured,
+            f40000,
+            answers(Figures::MEASURED, 429_600, 428_960, 640),
+        ),
+        line(
+            tall_measured,
+            even,
+            answers(Figures::MEASURED, 71_600, 140, 71_460),
+        ),
+        line(tall_measured, airy, Judged::Refused(Refusal::Oxygen)),
     ]
 }

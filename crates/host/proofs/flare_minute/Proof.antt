@@ -11,7 +11,7 @@ use Rattle.site.specs.Rules.{siteLines}
 use Rattle.site.specs.declared.Site.{Site}
 use Rattle.tool06.specs.Tool.{Masses, Positive}
 use Rattle.tool06.specs.declared.figures.Judged.the-variants.{Accepted, Refused}
-use Rattle.host.proofs.Outcome.{recordLines, judgedAs, refused-as, judged-as, outcome}
+use Rattle.host.proofs.Outcome.{recordLines, judgedAs, refused-as, examined, judged-as, outcome}
 use borrow.Author.Needs.{needs}
 use Rattle.host.proofs.flare_minute.Statement.{statement}
 use Rattle.host.proofs.flare_minute.Tie as tie
@@ -55,6 +55,13 @@ came j m pos =
     )
     (judged-as _ _ _ _ (fine e) m)
 
+judge-single-requires : tie.Need-judge-single-requires
+judge-single-requires c κs =
+    let e = c .before .before in
+    let f = e .before .before .before .before .before .before .before .before .before in
+    let a = f .before .before .before .before .args in
+    rw (f .fields-in .ensures) (examined (now (a .site)) (now (a .minute)) (a .days) (now (a .answer)) (fine e))
+
 fill-requires : tie.Need-fill-requires
 fill-requires c κs =
     let e = c .before .before .before .before .before .before .before in
@@ -96,7 +103,7 @@ flare-minute-spec =
     (search needs)
     (λ c κs. search needs)
     (λ c κs. search needs)
-    (λ c κs. search needs)
+    judge-single-requires
     (search needs)
     (λ c κs. search needs)
     (search needs)

@@ -16,7 +16,10 @@ returns c =
     let n = m .before .before .before .before in
     let r = n .before .before .before in
     let equivalent = rw (r .before .before .co2e .ensures) at (d .put-decimal .ensures .0) in
-    there (omega (arith, r .room .ensures, n .before .before .if1 .taken)) (onward (onward (onward (onward (n .put-counts .ensures .0) (m .put-methane .ensures .0)) (b .put-text .ensures)) equivalent) (e .put-text2 .ensures))
+    let k = r .before .before .before in
+    let counts = rw (k .before .before .before .gas .ensures, k .before .before .before .before .minutes .ensures) at (n .put-counts .ensures .0) in
+    let methane = rw (k .destroyed .ensures, k .before .emitted .ensures, k .before .before .fed .ensures) at (m .put-methane .ensures .0) in
+    there (omega (arith, r .room .ensures, n .before .before .if1 .taken)) (onward (onward (onward (onward counts methane) (b .put-text .ensures)) equivalent) (e .put-text2 .ensures))
 
 returns-2 : tie.Need-returns-2
 returns-2 c = nowhere _ _ _ (omega arith)
@@ -25,7 +28,12 @@ pub put-total-spec : {M : Type 1} → statement M
 put-total-spec =
     tie.close
     (tie.spec
-    (search needs)
+    (λ c κs. search needs)
+    (λ c κs. search needs)
+    (λ c κs. search needs)
+    (λ c κs. search needs)
+    (λ c κs. search needs)
+    (λ c κs. search needs)
     (search needs)
     (search needs)
     (search needs)

@@ -14,8 +14,9 @@ returns c =
     let y = s .before .before .before .before in
     let w = y .before .before .before .before .before in
     let r = w .before .before .before .before in
+    let year = rw (r .before .before .before .site .ensures) at (y .put-decimal .ensures .0) in
     let stands = rw (r .before .before .close .ensures) at (s .put-standing .ensures .0) in
-    there (omega (arith, r .room .ensures, w .before .before .before .if1 .taken)) (onward (onward (onward (w .put-text .ensures) (y .put-decimal .ensures .0)) stands) (e .put-text2 .ensures))
+    there (omega (arith, r .room .ensures, w .before .before .before .if1 .taken)) (onward (onward (onward (w .put-text .ensures) year) stands) (e .put-text2 .ensures))
 
 returns-2 : tie.Need-returns-2
 returns-2 c = nowhere _ _ _ (omega arith)
@@ -24,7 +25,8 @@ pub put-year-spec : {M : Type 1} → statement M
 put-year-spec =
     tie.close
     (tie.spec
-    (search needs)
+    (λ c κs. search needs)
+    (λ c κs. search needs)
     (search needs)
     (search needs)
     (search needs)

@@ -3,13 +3,14 @@ use borrow.Author.Needs.{needs}
 use Rattle.tool06.proofs.Ones.{ones, ones-positive}
 use Rattle.account.specs.Adding.{addTo}
 use Rattle.account.proofs.Accepted.{accepted}
+use Rattle.account.proofs.Opens.{site-examined}
 use Rattle.account.proofs.Account.add.Statement.{statement}
 use Rattle.account.proofs.Account.add.Tie as tie
 
 with-minute-requires : tie.Need-with-minute-requires
 with-minute-requires c κs =
     let v = c .before .before .before in
-    let e = accepted ones ones-positive _ _ _ (sym (v .answer .ensures ones ones-positive) ∙ c .before .answer2 .given .1) in
+    let e = accepted ones ones-positive _ (site-examined (v .before .before .pre)) _ _ (sym (v .answer .ensures ones ones-positive) ∙ c .before .answer2 .given .1) in
     (v .before .before .pre, (e .0, e .1))
 
 returns : tie.Need-returns

@@ -2,7 +2,7 @@ use mathlib.Core.Path.{_≡_, refl, sym, _∙_}
 use mathlib.Core.Bool.{Bool, true, false}
 use mathlib.Core.List.{List, _∷_}
 use borrow.Author.Needs.{needs}
-use Rattle.refusals.specs.Tables.{Line, when, firstOf, also, after}
+use Rattle.refusals.specs.Tables.{Line, when, firstOf, also, followedBy}
 use Rattle.refusals.specs.declared.refusal.Refusal.{Refusal}
 use Rattle.refusals.specs.declared.refusal.Refusal.the-variants.{Full}
 use Rattle.refusals.specs.declared.verdict.Verdict.the-variants.{Fine}
@@ -12,12 +12,13 @@ use Rattle.minute.specs.Record.{minuteOf}
 use Rattle.tool06.specs.Bounds.{figuresOf}
 use Rattle.tool06.specs.Judged.{judged, judgedLines}
 use Rattle.tool06.specs.declared.figures.Judged.the-variants.{Accepted, Refused}
-use Rattle.account.specs.Adding.{isFull, notNext, in-time, entry, recordLines, addLines, answer}
+use Rattle.account.specs.Adding.{isFull, notNext, inTimeAt, entry, recordLines, addLines, answer}
+use Rattle.account.proofs.Opens.{site-examined}
 use Rattle.account.proofs.Account.answer.Statement.{statement}
 use Rattle.account.proofs.Account.answer.Tie as tie
 
 -- one line before a table
-led : (bad : Bool) (why : Refusal) (t : List Line) → after (also Fine bad why) (firstOf t) ≡ firstOf (when bad why ∷ t)
+led : (bad : Bool) (why : Refusal) (t : List Line) → followedBy (also Fine bad why) (firstOf t) ≡ firstOf (when bad why ∷ t)
 led true why t = refl
 led false why t = refl
 
@@ -27,6 +28,9 @@ decided v =
     let a = v .before .before .before .before .before .args in
     rw (v .then .ensures, v .before .also .ensures, v .before .before .is-full .ensures, v .before .before .before .head .ensures)
     (led (isFull (a .self)) Full (headLines 54 1 (a .bytes .now)))
+
+judge-requires : tie.Need-judge-requires
+judge-requires c κs = site-examined (c .before .before .before .before .before .before .before .before .before .before .before .pre)
 
 returns : tie.Need-returns
 unfolding answer addLines
@@ -62,6 +66,6 @@ answer-spec =
     (search needs)
     (λ c κs. search needs)
     (λ c κs. search needs)
-    (λ c κs. search needs)
+    judge-requires
     returns
     returns-2)

@@ -3,13 +3,13 @@ use mathlib.Core.Path.{_≡_, ap, _∙_}
 use lib.ListN.{take}
 use native.Mathlib.Omega.{arith}
 use borrow.Author.Needs.{needs}
-use Rattle.account.specs.Adding.{in-time}
+use Rattle.account.specs.Adding.{inTimeAt}
 use Rattle.maintenance.specs.Days.{inTime, listedDays}
 use Rattle.account.proofs.Account.in_time.Statement.{statement}
 use Rattle.account.proofs.Account.in_time.Tie as tie
 
 returns : tie.Need-returns
-unfolding in-time listedDays
+unfolding inTimeAt listedDays
 returns c =
     let a = c .before .before .before .before .before .before .args in
     let all : a .self .maintenance .listed - 0 ≡ a .self .maintenance .listed = omega arith in

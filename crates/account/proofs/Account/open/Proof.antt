@@ -1,4 +1,4 @@
-use mathlib.Core.Path.{_≡_, sym}
+use mathlib.Core.Path.{_≡_}
 use mir.Syntax.{w16}
 use mir.ValLaws.{toZ-ofZ}
 use borrow.Author.Needs.{needs}
@@ -22,15 +22,7 @@ decided v =
 
 returns : tie.Need-returns
 unfolding opened
-returns c =
-    let v = c .before .before .before in
-    rw (sym (decided v), c .before .enum-told .given .1, c .fresh .ensures)
-
-returns-2 : tie.Need-returns-2
-unfolding opened
-returns-2 c =
-    let v = c .before .before .before .before .before in
-    rw (sym (decided v), c .before .before .before .enum-told2 .given .1, c .fresh2 .ensures, c .before .before .no-site .ensures)
+returns c = rw (decided (c .before), c .fresh .ensures)
 
 pub open-spec : {M : Type 1} → statement M
 open-spec =
@@ -40,13 +32,5 @@ open-spec =
     (λ c κs. search needs)
     (λ c κs. search needs)
     (λ c κs. search needs)
-    (search needs)
     (λ c κs. search needs)
-    (search needs)
-    (λ c κs. search needs)
-    (search needs)
-    (search needs)
-    (search needs)
-    (λ c κs. search needs)
-    returns
-    returns-2)
+    returns)

@@ -8,4 +8,4 @@ returns : tie.Need-returns
 returns c = rw (c .add .ensures ones ones-positive) (kept-add ones ones-positive (c .before .before .pre) _)
 
 pub add-to-spec : {M : Type 1} → statement M
-add-to-spec = tie.close (tie.spec (search needs) returns)
+add-to-spec = tie.close (tie.spec (λ c κs. search needs) returns)

@@ -5,7 +5,7 @@ use Rattle.desk.proofs.opening.with_site.Tie as tie
 
 returns : tie.Need-returns
 returns c =
-    λ is. rw (c .before .before .before .before .before .before .before .before .«open» .ensures) (opened-kept _ _)
+    λ is. opened-kept _ _ (c .before .before .before .before .before .before .before .before .«open» .ensures) (c .before .before .before .before .before .enum-told .given .1)
 
 pub with-site-spec : {M : Type 1} → statement M
 with-site-spec =

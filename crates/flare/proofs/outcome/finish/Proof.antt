@@ -16,4 +16,4 @@ returns : tie.Need-returns
 returns c = c .before .before .before .before .put-ending .ensures .1
 
 pub finish-spec : {M : Type 1} → statement M
-finish-spec = tie.close (tie.spec (search needs) print-requires (search needs) returns)
+finish-spec = tie.close (tie.spec (λ c κs. search needs) print-requires (search needs) returns)

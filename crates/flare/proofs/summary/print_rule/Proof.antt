@@ -5,7 +5,7 @@ use native.Mathlib.Omega.{arith}
 use borrow.Author.Needs.{needs}
 use lib.ListN.{length}
 use Rattle.lines.specs.Lines.{ruleLine}
-use Rattle.text.specs.Places.{Written}
+use Rattle.text.specs.Places.{PutFrom}
 use Rattle.lines.specs.Places.{placed, placeAfter}
 use Rattle.lines.proofs.NoneCut.{none-cut}
 use Rattle.report.proofs.Placed.{whole}
@@ -17,7 +17,7 @@ ruled :
     {b b' : List ℕ} {at next : ℕ} (rule minutes : ℕ) (words : List ℕ)
     → at + 163 ≤ length b
     → (next ≡ placeAfter b at (ruleLine rule minutes words)) × (b' ≡ placed b at (ruleLine rule minutes words))
-    → Written b at (ruleLine rule minutes words) b' next × (next ≤ at + 163)
+    → PutFrom b at (ruleLine rule minutes words) b' next × (next ≤ at + 163)
 ruled rule minutes words h put-is = let w = whole h put-is in (w, omega (arith, w .place, none-cut .rule rule minutes words))
 
 part-write-all-end : tie.Need-part-write-all-end

@@ -1,7 +1,7 @@
 use borrow.Author.Needs.{needs}
 use mathlib.Core.Path.{sym, _∙_}
 use native.Mathlib.Omega.{arith}
-use Rattle.tool06.specs.Nanograms.{figuresNg}
+use Rattle.tool06.specs.scaffold.Nanograms.{figuresNg}
 use Rattle.tool06.proofs.Amounts.{emitted-within}
 use Rattle.judge.proofs.figures.figures_of.Statement.{statement}
 use Rattle.judge.proofs.figures.figures_of.Tie as tie

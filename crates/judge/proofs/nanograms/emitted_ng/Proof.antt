@@ -1,7 +1,7 @@
 use borrow.Author.Needs.{needs}
 use native.Mathlib.Omega.{arith}
 use borrow.Author.Tests.{eq-eqb, ne-eqb}
-use Rattle.tool06.specs.Nanograms.{emittedNg}
+use Rattle.tool06.specs.scaffold.Nanograms.{emittedNg}
 use Rattle.judge.proofs.Sizes.{tenths-within, LKf-within}
 use Rattle.judge.proofs.nanograms.emitted_ng.Statement.{statement}
 use Rattle.judge.proofs.nanograms.emitted_ng.Tie as tie

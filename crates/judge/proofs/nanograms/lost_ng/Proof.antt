@@ -4,7 +4,7 @@ use Prim.Native.Nat.{ℕ, _+_, _*_, _/_, min}
 use native.Mathlib.Omega.{arith}
 use Rattle.exact.specs.Rounding.{ceilDiv}
 use Rattle.exact.proofs.Rounding.{ceil-le-self, tenths-capped}
-use Rattle.tool06.specs.Nanograms.{lost}
+use Rattle.tool06.specs.scaffold.Nanograms.{lost}
 use Rattle.judge.proofs.Sizes.{digit, digit-over, digit-up, tens-within}
 use Rattle.judge.proofs.nanograms.lost_ng.Statement.{statement}
 use Rattle.judge.proofs.nanograms.lost_ng.Tie as tie

@@ -16,4 +16,4 @@ returns c =
     at-start (onward first then)
 
 pub put-ending-spec : {M : Type 1} → statement M
-put-ending-spec = tie.close (tie.spec (search needs) (search needs) (search needs) returns)
+put-ending-spec = tie.close (tie.spec (λ c κs. search needs) (λ c κs. search needs) (search needs) returns)

@@ -13,7 +13,8 @@ returns c =
     let c4 = c7 .before .before .before in
     let c1 = c4 .before .before .before in
     let t = c1 .before .before .before in
-    let a = t .before .before .before .args in
+    let h3 = t .before .before .before in
+    let a = h3 .before .before .before .args in
     rw (
       ← found-first (ruleLines (a .site) (a .minute) (a .in-time)) (rule 9 (measured (a .site) (a .minute))),
       c .otherwise .ensures,
@@ -30,12 +31,18 @@ returns c =
       t .temperature-unfit .ensures,
       toZ-ofZ w16 (a .minute .temperature) (sfits-of (t .before .struct-told .given .1 .1 .0 .1)),
       t .before .before .is-open .ensures,
+      h3 .has3 .ensures,
+      h3 .before .has2 .ensures,
+      h3 .before .before .has .ensures,
     )
 
 pub rule-of-spec : {M : Type 1} → statement M
 rule-of-spec =
     tie.close
     (tie.spec
+    (search needs)
+    (search needs)
+    (search needs)
     (search needs)
     (search needs)
     (search needs)

@@ -4,7 +4,7 @@ use native.Mathlib.Omega.{arith}
 use lib.ListN.{length, drop}
 use borrow.Author.Needs.{needs}
 use borrow.Author.Tests.{not-true, not-false}
-use Rattle.words.specs.Numbers.{spelled}
+use Rattle.words.specs.Numbers.{spelledOn}
 use Rattle.words.proofs.Decimals.{spelled-much, spelled-more, spelled-not, spelled-end, of-none, of-some}
 use Rattle.words.proofs.number.number_in.Statement.{statement}
 use Rattle.words.proofs.number.number_in.Tie as tie
@@ -12,7 +12,7 @@ use Rattle.words.proofs.number.number_in.Tie as tie
 -- what is left of the word, after the digits that spell the sum, spells what the word spells
 abbrev Inv-loop : tie.InvT-loop
 Inv-loop word most limit sum₀ i₀ sum i =
-    (sum ≤ most) × (spelled most sum (drop i word) ≡ spelled most 0 word)
+    (sum ≤ most) × (spelledOn most sum (drop i word) ≡ spelledOn most 0 word)
 
 abbrev μ-loop : tie.MeasureT-loop
 μ-loop word most limit sum₀ i₀ sum i = length word - i

@@ -14,10 +14,10 @@ use Rattle.maintenance.proofs.list.Maintenance.of.Tie as tie
 
 -- the first i days are kept, and zeros after them
 abbrev Inv-loop : tie.InvT-loop
-Inv-loop list listed days₀ i₀ days i = (i ≤ listed) × (listed ≡ min (length list) 64) × (days ≡ take i list ++ replicate (64 - i) (pos 0))
+Inv-loop list listed kept days₀ i₀ days i = (i ≤ kept) × (kept ≡ min (length list) 64) × (days ≡ take i list ++ replicate (64 - i) (pos 0))
 
 abbrev μ-loop : tie.MeasureT-loop
-μ-loop list listed days₀ i₀ days i = listed - i
+μ-loop list listed kept days₀ i₀ days i = kept - i
 
 loop-holds : tie.Need-loop-holds Inv-loop μ-loop
 loop-holds c = (omega arith, ⊎-elim (λ w. omega (arith, w .0 .taken, w .1)) (λ w. omega (arith, w .0 .left, w .1)) (c .if1 .came), refl)
@@ -31,8 +31,8 @@ loop-again c =
 returns : tie.Need-returns Inv-loop μ-loop
 returns c =
     let l = c .before .loop in
-    let i-is : l .i ≡ c .before .before .if1 .listed = omega arith in
-    rw (l .inv .2, i-is) (all-kept (c .before .before .before .args .list .now) (c .before .before .if1 .listed) (l .inv .1))
+    let i-is : l .i ≡ c .before .before .if1 .kept = omega arith in
+    rw (l .inv .2, i-is) (all-kept (c .before .before .before .args .list .now) (c .before .before .if1 .kept) (l .inv .1))
 
 pub of-spec : {M : Type 1} → statement M
 of-spec =
