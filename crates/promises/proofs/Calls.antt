@@ -1,0 +1,162 @@
+-- Every answer is decided by its table, whatever the answer's type.
+use Prim.Native.Nat.{ℕ, zero, suc, _*_, _/_, _%_, _<_}
+use mathlib.Core.Path.{_≡_, refl}
+use mathlib.Core.Bool.{Bool, true, false, not, cond}
+use mathlib.Core.List.{List, [], _∷_, _++_}
+use mathlib.Core.Option.{some, none}
+use lib.Dec.{eqb, leb}
+use lib.ListN.{length, take, drop}
+use native.Mathlib.Omega.{arith}
+use Rattle.exact.specs.Rounding.{ceilDiv}
+use Rattle.refusals.specs.Refusals.{numberOf}
+use Rattle.refusals.specs.Tables.{Line, when, firstOf}
+use Rattle.refusals.specs.declared.refusal.Refusal.{Refusal}
+use Rattle.refusals.specs.declared.refusal.Refusal.the-variants.{Length, Version, Method, Year, Gwp, Size, Spec, Open, Schedule, List as LIST, Full, Flags, Order, Flow, Composition, Methane, Temperature, Exhaust, Oxygen, Incomplete, Day, Buffer}
+use Rattle.refusals.specs.declared.verdict.Verdict.{Verdict}
+use Rattle.refusals.specs.declared.verdict.Verdict.the-variants.{Fine, Refuse}
+use Rattle.records.specs.House.{headLines, bufferLines, answered}
+use Rattle.site.specs.Record.{siteOf, siteBytes, readSite, writeSite}
+use Rattle.site.specs.Rules.{siteLines}
+use Rattle.site.specs.declared.SiteRead.the-variants.{Fields as SiteFields, Refused as SiteRefused}
+use Rattle.minute.specs.Record.{minuteOf, minuteBytes, readMinute, writeMinute}
+use Rattle.minute.specs.Rules.{minuteLines, aloneLines}
+use Rattle.minute.specs.declared.MinuteRead.the-variants.{Fields as MinuteFields, Refused as MinuteRefused}
+use Rattle.tool06.specs.Bounds.{figuresOf}
+use Rattle.tool06.specs.declared.class.Class.the-variants.{Open as Open', Low, Tall}
+use Rattle.tool06.specs.Tool.{Masses}
+use Rattle.tool06.specs.declared.figures.Judged.{Judged}
+use Rattle.tool06.specs.declared.figures.Judged.the-variants.{Accepted, Refused}
+use Rattle.account.specs.Adding.{isFull, entry, addLines, answer, addTo}
+use Rattle.account.specs.Closing.{co2e, closing}
+use Rattle.account.specs.Opening.{openLines, opened}
+use Rattle.account.specs.declared.Account.{Account}
+use Rattle.account.specs.declared.close.Closed.the-variants.{Tonnes, Refused as NotClosed}
+use Rattle.run.specs.Check.{stopOr, firstRefused, wholeOr, checked}
+use Rattle.run.specs.declared.check.Checked.{Checked}
+use Rattle.host.specs.Single.{singleLines, single, singleFigures, returned}
+use Rattle.promises.specs.Numbers.{Said, given, refused, saidOfSite, saidOfMinute, saidOfJudged, saidOfClosed, saidOfVerdict, saidOfChecked, saidOfClass, decides}
+use Rattle.promises.specs.Calls.{ReadingASite, ReadingAMinute, WritingASite, WritingAMinute, Opening, Adding, Closing, ASingleMinute, Classing, orLater, firstSaid, CheckingARun, NumbersOfCalls}
+
+-- an answer of any type whose cases are values and a refusal
+by-table :
+    {R A : Type 0} (F : A → R) (why : Refusal → R) (say : R → Said A) (v : A)
+    → say (F v) ≡ given v
+    → ((r : Refusal) → say (why r) ≡ refused r)
+    → (t : List Line) → say (answered F why v (firstOf t)) ≡ decides t v
+by-table F why say v fine refuse [] = fine
+by-table F why say v fine refuse (when true r ∷ t) = refuse r
+by-table F why say v fine refuse (when false r ∷ t) = by-table F why say v fine refuse t
+
+by-verdict : {A : Type 0} (v : A) (t : List Line) → saidOfVerdict v (firstOf t) ≡ decides t v
+by-verdict v [] = refl
+by-verdict v (when true r ∷ t) = refl
+by-verdict v (when false r ∷ t) = by-verdict v t
+
+reading-a-site : ReadingASite
+unfolding readSite headLines siteLines
+reading-a-site b = record { in-order = refl; decided = by-table SiteFields SiteRefused saidOfSite (siteOf b) refl (λ r. refl) (headLines 30 1 b ++ siteLines (siteOf b)) }
+
+reading-a-minute : ReadingAMinute
+unfolding readMinute headLines minuteLines
+reading-a-minute b = record { in-order = refl; decided = by-table MinuteFields MinuteRefused saidOfMinute (minuteOf b) refl (λ r. refl) (headLines 54 1 b ++ aloneLines (minuteOf b)) }
+
+writing-a-site : WritingASite
+unfolding writeSite siteLines
+writing-a-site s out = record { in-order = refl; decided = by-verdict (siteBytes s) (bufferLines 30 out ++ siteLines s) }
+
+writing-a-minute : WritingAMinute
+unfolding writeMinute minuteLines
+writing-a-minute n out = record { in-order = refl; decided = by-verdict (minuteBytes n) (bufferLines 54 out ++ aloneLines n) }
+
+opening : Opening
+unfolding opened openLines siteLines
+opening s days = record { in-order = refl; decided = by-verdict (opened s days .account) (openLines s days) }
+
+adding : Adding
+unfolding addTo answer addLines headLines minuteLines
+adding m a b = record { in-order = refl; decided = by-table Accepted Refused saidOfJudged (figuresOf m (entry a b)) refl (λ r. refl) (addLines a b) }
+
+closing-a-year : Closing
+unfolding closing
+closing-a-year a = record { in-order = refl; decided = by-table Tonnes NotClosed saidOfClosed (ceilDiv (co2e a) 1000000000) refl (λ r. refl) (when (not (isFull a)) Incomplete ∷ []) }
+
+same-number : {A : Type 0} (v : A) (w : Verdict) → returned w ≡ saidOfVerdict v w .number
+unfolding returned
+same-number v Fine = refl
+same-number v (Refuse r) = refl
+
+a-single-minute : ASingleMinute
+unfolding single singleLines headLines siteLines minuteLines
+a-single-minute m site minute days answer =
+    (record { in-order = refl; decided = by-verdict (singleFigures m site minute days) (singleLines site minute answer) }, same-number (singleFigures m site minute days) (single site minute answer))
+
+-- no refusal has the number 0
+no-zero : (r : Refusal) → 0 < numberOf r
+no-zero Length = omega arith
+no-zero Version = omega arith
+no-zero Method = omega arith
+no-zero Year = omega arith
+no-zero Gwp = omega arith
+no-zero Size = omega arith
+no-zero Spec = omega arith
+no-zero Open = omega arith
+no-zero Schedule = omega arith
+no-zero LIST = omega arith
+no-zero Full = omega arith
+no-zero Flags = omega arith
+no-zero Order = omega arith
+no-zero Flow = omega arith
+no-zero Composition = omega arith
+no-zero Methane = omega arith
+no-zero Temperature = omega arith
+no-zero Exhaust = omega arith
+no-zero Oxygen = omega arith
+no-zero Incomplete = omega arith
+no-zero Day = omega arith
+no-zero Buffer = omega arith
+
+stops : (k expected : ℕ) (later : Said (ℕ × ℕ)) → 0 < k → record { number = k; values = some (expected / 1440, expected % 1440) } ≡ orLater k expected later
+stops zero expected later h = absurd (omega arith)
+stops (suc k) expected later h = refl
+
+step :
+    (a : Account) (j : Judged) (rest : Checked) (later : Said (ℕ × ℕ))
+    → saidOfChecked rest ≡ later
+    → saidOfChecked (stopOr a j rest) ≡ orLater (saidOfJudged j .number) (a .minutes) later
+step a (Accepted f) rest later e = e
+step a (Refused r) rest later e = stops (numberOf r) (a .minutes) later (no-zero r)
+
+in-turn : (m : Masses) (n : ℕ) (a : Account) (run : List ℕ) → saidOfChecked (firstRefused m n a run) ≡ firstSaid m n a run
+unfolding firstRefused
+in-turn m zero a run = refl
+in-turn m (suc n) a run = step a (addTo m a (take 54 run) .answer) _ _ (in-turn m n (addTo m a (take 54 run) .account) (drop 54 run))
+
+checking-a-run : CheckingARun
+unfolding checked
+checking-a-run m a run = by-whole (eqb (length run % 54) 0)
+  where
+    by-whole : (whole : Bool) → saidOfChecked (wholeOr whole (firstRefused m (length run / 54) a run)) ≡ cond whole (firstSaid m (length run / 54) a run) (record { number = 1; values = none })
+    by-whole true = in-turn m (length run / 54) a run
+    by-whole false = refl
+
+classing : Classing
+classing s = by-height (leb (s .height) (2 * s .diameter)) (leb (s .height) (10 * s .diameter))
+  where
+    by-height : (bare low : Bool) → saidOfClass (cond bare Open' (cond low Low Tall)) ≡ given (cond bare "open" (cond low "low" "tall"))
+    by-height true low = refl
+    by-height false true = refl
+    by-height false false = refl
+
+pub numbers-of-calls : NumbersOfCalls
+numbers-of-calls = record {
+  reading-a-site = reading-a-site;
+  reading-a-minute = reading-a-minute;
+  writing-a-site = writing-a-site;
+  writing-a-minute = writing-a-minute;
+  classing = classing;
+  opening = opening;
+  adding = adding;
+  closing-a-year = closing-a-year;
+  checking-a-run = checking-a-run;
+  a-single-minute = a-single-minute;
+}

@@ -1,0 +1,55 @@
+-- Every promise is kept.
+use Rattle.site.proofs.RoundTrip.{site-reads-back, site-writes-back}
+use Rattle.site.proofs.Unique as site
+use Rattle.minute.proofs.RoundTrip.{minute-reads-back, minute-writes-back}
+use Rattle.minute.proofs.Unique as minute
+use Rattle.tool06.proofs.Kept.{fed-form, short-form, sign-of-F, equation-seven}
+use Rattle.rules.proofs.Unique.{class-of-one}
+use Rattle.account.proofs.Accepted.{nothing-else}
+use Rattle.account.proofs.Laws.{only-opened, refused-stays}
+use Rattle.account.proofs.Lossless.{lossless}
+use Rattle.account.proofs.Unique.{open-one, add-one, co2e-one, close-one, chart-one}
+use Rattle.run.proofs.Unique.{check-run-one, day-part-one}
+use Rattle.host.proofs.Unique.{flare-minute-one}
+use Rattle.history.proofs.Holds.{every-kept}
+use Rattle.history.proofs.Opening.{opened-stays}
+use Rattle.history.proofs.Promises.{histories, by-any-masses, demand-three, demand-three-by-seven}
+use Rattle.history.proofs.Year.{equation-15}
+use Rattle.worked.proofs.Holds.{table-holds}
+use Rattle.promises.specs.Outcomes.{OneOutcomeOfCalls}
+use Rattle.promises.specs.Product.{Product}
+use Rattle.promises.proofs.Calls.{numbers-of-calls}
+
+one-outcome-of-calls : OneOutcomeOfCalls
+one-outcome-of-calls = record {
+  reading-a-site = site.read-one;
+  reading-a-minute = minute.read-one;
+  writing-a-site = site.write-one;
+  writing-a-minute = minute.write-one;
+  classing = class-of-one;
+  opening = open-one;
+  adding = add-one;
+  co2-equivalent = co2e-one;
+  closing-a-year = close-one;
+  charting = chart-one;
+  checking-a-run = check-run-one;
+  part-of-a-day = day-part-one;
+  a-single-minute = flare-minute-one;
+}
+
+pub product : Product
+product = record {
+  numbers = numbers-of-calls;
+  one-outcome = one-outcome-of-calls;
+  refusals = refused-stays;
+  accounts = (every-kept, only-opened);
+  histories = (histories, opened-stays);
+  nothing-else = nothing-else;
+  round-trips = (site-reads-back, site-writes-back, minute-reads-back, minute-writes-back);
+  examples = table-holds;
+  chart-points = lossless;
+  demand-three = (demand-three, demand-three-by-seven);
+  equation-15 = equation-15;
+  short-form = (fed-form, short-form, sign-of-F);
+  any-masses = (by-any-masses, equation-seven);
+}

@@ -1,0 +1,4 @@
+pub mod Calls
+pub mod Numbers
+pub mod Outcomes
+pub mod Product

@@ -1,0 +1,1 @@
+// What the product promises, on one page. It has no function.
