@@ -1,4 +1,4 @@
--- Document 01, "Adding a minute: 11, 1, 2, 12 to 19", and what an accepted minute adds.
+-- R46, R55, R56: "Adding a minute: 11, 1, 2, 12 to 19", and what an accepted minute adds.
 use Prim.Native.Nat.{ℕ, _+_, _/_}
 use mathlib.Core.Bool.{Bool, not}
 use mathlib.Core.List.{List, _∷_, _++_}
@@ -20,43 +20,43 @@ use Rattle.tool06.specs.declared.figures.Judged.the-variants.{Accepted, Refused
 use Rattle.account.specs.declared.Account.{Account}
 use Rattle.account.specs.declared.add.Added.{Added}
 
--- "the year's last minute is already in"
+-- R48, R51: 11, "the year's last minute is already in"
 unfoldable pub isFull : Account → Bool
 isFull a = leb (yearMinutes (a .site .year)) (a .minutes)
 
--- "not the next minute"
+-- R51: 13, "not the next minute"
 abbrev pub notNext : Account → Minute → Bool
 notNext a n = not (eqb (n .number) (a .minutes))
 
--- "in time on day d", d being the day of this minute of the year
+-- R14, R16: "in time on day d", d being the day of this minute of the year
 unfoldable pub inTimeAt : Account → ℕ → Bool
 inTimeAt a number = inTime (listedDays (a .maintenance)) (number / 1440) (a .site .days)
 
--- the minute of these bytes, as the account judges it
+-- R56: the minute of these bytes, as the account judges it
 abbrev pub entry : Account → List ℕ → Entry
 entry a b = record { site = a .site; minute = minuteOf b; inTime = inTimeAt a (minuteOf b .number) }
 
--- 11, then 1 and 2
+-- R55: 11, then 1 and 2
 abbrev pub recordLines : Account → List ℕ → List Line
 recordLines a b = when (isFull a) Full ∷ headLines 54 1 b
 
--- then 12 to 19
+-- R55: then 12 to 19
 unfoldable pub addLines : Account → List ℕ → List Line
 addLines a b = recordLines a b ++ judgedLines (notNext a (minuteOf b)) (a .site) (minuteOf b)
 
--- the minute's figures and rule, or the refusal
+-- R56: the minute's figures and rule, or the refusal
 unfoldable pub answer : Masses → Account → List ℕ → Judged
 answer m a b = answered Accepted Refused (figuresOf m (entry a b)) (firstOf (addLines a b))
 
--- 1 for a minute with gas: rule 0 is "no gas"
+-- R46: 1 for a minute with gas: rule 0 is "no gas"
 abbrev pub withGas : ℕ → ℕ
 withGas rule = oneIf (not (eqb rule 0))
 
--- one more at place k
+-- R46: one more at place k
 abbrev pub oneMore : List ℕ → ℕ → List ℕ
 oneMore counts k = set counts k (getD counts k 0 + 1)
 
--- "the number of minutes accepted, the number with gas, and ten counts, one per rule", and the three sums
+-- R46: "the number of minutes accepted, the number with gas, and ten counts, one per rule", and the three sums
 unfoldable pub withMinute : Account → Figures → Account
 withMinute a f = record {
   site = a .site;
@@ -69,10 +69,11 @@ withMinute a f = record {
   counts = oneMore (a .counts) (f .rule);
 }
 
--- "A refusal returns its number and nothing else; the account .. stay[s]"
+-- R56, R58: "A refusal returns its number and nothing else; the account .. stay[s]"
 abbrev pub afterAnswer : Account → Judged → Account
 afterAnswer a (Accepted f) = withMinute a f
 afterAnswer a (Refused r) = a
 
+-- R55, R56: the answer, and the account after it
 unfoldable pub addTo : Masses → Account → List ℕ → Added
 addTo m a b = record { answer = answer m a b; account = afterAnswer a (answer m a b) }

@@ -1,4 +1,4 @@
--- Document 01: CO2 equivalent, closing, and a chart point.
+-- R47 to R49: CO2 equivalent, closing, and a chart point.
 use Prim.Native.Nat.{ℕ, _*_}
 use mathlib.Core.Bool.{not}
 use mathlib.Core.List.{[], _∷_}
@@ -14,18 +14,18 @@ use Rattle.account.specs.declared.close.Closed.{Closed}
 use Rattle.account.specs.declared.close.Closed.the-variants.{Tonnes, Refused}
 use Rattle.account.specs.declared.close.Point.{Point}
 
--- "CO2 equivalent, in mg, is GWP times the emitted sum"
+-- R47: "CO2 equivalent, in mg, is GWP times the emitted sum"
 unfoldable pub co2e : Account → ℕ
 co2e a = a .site .gwp * a .emitted
 
--- "Closing gives tonnes CO2 equivalent, rounded up, once every minute is in", else 20
+-- R48: "Closing gives tonnes CO2 equivalent, rounded up, once every minute is in", else 20
 unfoldable pub closing : Account → Closed
 closing a = answered Tonnes Refused (ceilDiv (co2e a) 1000000000) (firstOf (when (not (isFull a)) Incomplete ∷ []))
 
--- "the mg sum converted without loss, then one division by 1e9"
+-- R49: "the mg sum converted without loss, then one division by 1e9"
 unfoldable pub inTonnes : ℕ → Float
 inTonnes mg = div binary64 (ofInt binary64 (pos mg)) (ofInt binary64 (pos 1000000000))
 
--- "A chart point holds fed methane and CO2 equivalent in tonnes"
+-- R49: "A chart point holds fed methane and CO2 equivalent in tonnes"
 unfoldable pub chart : Account → Point
 chart a = record { fed = inTonnes (a .fed); co2e = inTonnes (co2e a) }

@@ -1,4 +1,4 @@
--- What every account that the calls can give has: a site and a list that opening does not refuse, room for its sums, and arrays of their length.
+-- R89: what every account that the calls can give has: a site and a list that opening does not refuse, room for its sums, and arrays of their length.
 use Prim.Native.Nat.{ℕ, _+_, _*_, _≤_}
 use mathlib.Core.Path.{_≡_}
 use mathlib.Core.List.{List, [], _∷_}
@@ -14,6 +14,7 @@ abbrev pub sum : List ℕ → ℕ
 sum [] = 0
 sum (x ∷ xs) = x + sum xs
 
+-- R89: what every call that takes an account requires of it
 pub record Kept (a : Account) : Type 0 where
   pub opens : firstOf (openLines (a .site) (listedDays (a .maintenance))) ≡ Fine
   pub minutes-within : a .minutes ≤ yearMinutes (a .site .year)

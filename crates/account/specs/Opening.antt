@@ -1,4 +1,4 @@
--- Document 01, "Opening an account takes a site's fields: 3 to 9, then 10".
+-- R53, R54: "Opening an account takes a site's fields: 3 to 9, then 10".
 use Prim.Native.Nat.{ℕ, _-_, _/_}
 use mathlib.Core.List.{List, [], _∷_, _++_}
 use lib.IntN.{ℤ, pos}
@@ -11,14 +11,15 @@ use Rattle.maintenance.specs.Days.{listWrong, maintenanceOf}
 use Rattle.account.specs.declared.Account.{Account}
 use Rattle.account.specs.declared.open.Opened.{Opened}
 
--- "the year's last day": "Days count from 0"
+-- R14: "the year's last day": "Days count from 0"
 unfoldable pub lastDay : ℕ → ℤ
 lastDay year = pos (yearMinutes year / 1440 - 1)
 
+-- R53: 3 to 9 of the site, then 10 of the list
 unfoldable pub openLines : Site → List ℤ → List Line
 openLines s days = siteLines s ++ (when (listWrong days (lastDay (s .year))) LIST ∷ [])
 
--- no minute yet
+-- R1, R46: the account of one flare and one year, with no minute yet
 unfoldable pub fresh : Site → List ℤ → Account
 fresh s days = record {
   site = s;
@@ -31,6 +32,6 @@ fresh s days = record {
   counts = replicate 10 0;
 }
 
--- beside a refusal stands an account that meets no call's requirement (OnlyOpened)
+-- R53, R54: beside a refusal stands an account that meets no call's requirement (OnlyOpened)
 unfoldable pub opened : Site → List ℤ → Opened
 opened s days = record { verdict = firstOf (openLines s days); account = fresh s days }

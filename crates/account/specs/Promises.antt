@@ -1,4 +1,4 @@
--- What is promised of the calls of an account, whatever account it is.
+-- R45, R49, R54, R58: what is promised of the calls of an account, whatever account it is.
 use Prim.Native.Nat.{ℕ}
 use mathlib.Core.Path.{_≡_}
 use mathlib.Core.Logic.{_↔_}
@@ -20,15 +20,15 @@ use Rattle.account.specs.Kept.{Kept}
 use Rattle.account.specs.Opening.{opened}
 use Rattle.account.specs.declared.Account.{Account}
 
--- the account beside an opening is one that the calls take exactly where the opening was not refused
+-- R54: the account beside an opening is one that the calls take exactly where the opening was not refused
 abbrev pub OnlyOpened : Type 0
 OnlyOpened = (s : Site) (days : List ℤ) → Kept (opened s days .account) ↔ (opened s days .verdict ≡ Fine)
 
--- "A refusal returns its number and nothing else; the account .. stay[s]"
+-- R58, R83: "A refusal returns its number and nothing else; the account .. stay[s]"
 abbrev pub RefusedStays : Type 0
 RefusedStays = (m : Masses) (a : Account) (bytes : List ℕ) (r : Refusal) → answer m a bytes ≡ Refused r → addTo m a bytes .account ≡ a
 
--- a minute's figures depend on nothing but its site, its record and whether maintenance is in time: two accounts that agree in these give the same, whatever minutes they took before
+-- R45: a minute's figures depend on nothing but its site, its record and whether maintenance is in time: two accounts that agree in these give the same, whatever minutes they took before
 abbrev pub NothingElse : Type 0
 NothingElse =
     (m : Masses) (a b : Account) (bytes : List ℕ) (f g : Figures)
@@ -38,10 +38,10 @@ NothingElse =
     → answer m b bytes ≡ Accepted g
     → f ≡ g
 
--- as an f64 it is finite, not negative, and mg / 1 in size
+-- R49: as an f64 it is finite, not negative, and mg / 1 in size
 abbrev pub ConvertedExactly : ℕ → Type 0
 ConvertedExactly mg = HasValue (ofInt binary64 (pos mg)) false mg 1
 
--- "the mg sum converted without loss"
+-- R49: "the mg sum converted without loss"
 abbrev pub Lossless : Type 0
 Lossless = (a : Account) → Kept a → ConvertedExactly (a .fed) × ConvertedExactly (co2e a)

@@ -1,4 +1,4 @@
--- Every account that any calls can give, with the minutes accepted so far.
+-- R59: every account that any calls can give, with the minutes accepted so far.
 use mathlib.Core.Path.{_≡_}
 use mathlib.Core.List.{List, [], _∷_, _++_}
 use Prim.Native.Nat.{ℕ}
@@ -13,12 +13,12 @@ use Rattle.account.specs.Adding.{entry, answer, addTo}
 use Rattle.account.specs.Opening.{opened}
 use Rattle.account.specs.declared.Account.{Account}
 
--- the calls that take an account, with the bytes lent to them
+-- R59: the calls that take an account, with the bytes lent to them
 pub data Call : Type 0 where
   add check-run : List ℕ → Call
   close chart co2e : Call
 
--- adding gives an account; the other calls give none, and the account is the one it was
+-- R48, R59: adding gives an account; the other calls give none, and the account is the one it was
 abbrev pub accountAfter : Masses → Account → Call → Account
 accountAfter m a (add bytes) = addTo m a bytes .account
 accountAfter m a (check-run run) = a
@@ -26,11 +26,12 @@ accountAfter m a close = a
 accountAfter m a chart = a
 accountAfter m a co2e = a
 
--- one minute more, where it is accepted
+-- R59: one minute more, where it is accepted
 abbrev pub grown : List Entry → Entry → Judged → List Entry
 grown es e (Accepted f) = es ++ (e ∷ [])
 grown es e (Refused r) = es
 
+-- R59: the minutes accepted, after a call
 abbrev pub minutesAfter : Masses → Account → List Entry → Call → List Entry
 minutesAfter m a es (add bytes) = grown es (entry a bytes) (answer m a bytes)
 minutesAfter m a es (check-run run) = es
@@ -38,7 +39,7 @@ minutesAfter m a es close = es
 minutesAfter m a es chart = es
 minutesAfter m a es co2e = es
 
--- the account after an opening with this site and this list that was not refused, and any calls; and the minutes accepted, in their order
+-- R59: the account after an opening with this site and this list that was not refused, and any calls; and the minutes accepted, in their order
 pub data Reached (m : Masses) (s : Site) (days : List ℤ) : Account → List Entry → Type 0 where
   at-first : opened s days .verdict ≡ Fine → Reached m s days (opened s days .account) []
   then : {a : Account} {es : List Entry} → Reached m s days a es → (c : Call) → Reached m s days (accountAfter m a c) (minutesAfter m a es c)

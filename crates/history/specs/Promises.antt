@@ -1,4 +1,4 @@
--- What is proved of every account that any calls can give.
+-- R84, R86, R89: what is proved of every account that any calls can give.
 use mathlib.Core.Path.{_≡_}
 use mathlib.Core.List.{List, [], _∷_}
 use Prim.Native.Nat.{ℕ, suc, _*_, _/_, _<_}
@@ -15,59 +15,59 @@ use Rattle.account.specs.Kept.{Kept}
 use Rattle.account.specs.declared.Account.{Account}
 use Rattle.history.specs.History.{Reached}
 
--- the minute e is minute k of the year at this site, accepted, with maintenance in time by this list on its own day
+-- R84: the minute e is minute k of the year at this site, accepted, with maintenance in time by this list on its own day
 pub record InPlace (s : Site) (days : List ℤ) (k : ℕ) (e : Entry) : Type 0 where
   pub site-is : e .site ≡ s
   pub number-is : e .minute .number ≡ k
   pub in-time-is : e .inTime ≡ inTime days (k / 1440) (s .days)
   pub accepted : IsAccepted e
 
--- minutes k, k + 1 and so on
+-- R84: minutes k, k + 1 and so on
 abbrev pub FromMinute : Site → List ℤ → ℕ → List Entry → Type 0
 FromMinute s days k [] = Unit {0}
 FromMinute s days k (e ∷ es) = InPlace s days k e × FromMinute s days (suc k) es
 
--- what the account holds is the sum, or the number, over exactly these minutes
+-- R84: what the account holds is the sum, or the number, over exactly these minutes
 pub record Holds (m : Masses) (a : Account) (es : List Entry) : Type 0 where
   pub minutes-are : a .minutes ≡ length es
   pub gas-is : a .gas ≡ total gasOf es
   pub fed-is : a .fed ≡ total (λ e. figuresOf m e .fed) es
   pub emitted-is : a .emitted ≡ total (λ e. figuresOf m e .emitted) es
   pub destroyed-is : a .destroyed ≡ total (λ e. figuresOf m e .destroyed) es
-  -- "each count is the number of accepted minutes under that rule"
+  -- R84: "each count is the number of accepted minutes under that rule"
   pub counts-are : (k : ℕ) → k < 10 → getD (a .counts) k 0 ≡ total (λ e. oneIf (eqb (figuresOf m e .rule) k)) es
-  -- "CO2 equivalent, in mg, is GWP times the emitted sum"
+  -- R47: "CO2 equivalent, in mg, is GWP times the emitted sum"
   pub co2e-is : co2e a ≡ a .site .gwp * total (λ e. figuresOf m e .emitted) es
 
--- for every account that any calls can give
+-- R59: for every account that any calls can give
 abbrev pub OfEvery : ((m : Masses) (s : Site) (days : List ℤ) (a : Account) (es : List Entry) → Type 0) → Type 0
 OfEvery P = (m : Masses) → Positive m → (s : Site) (days : List ℤ) (a : Account) (es : List Entry) → Reached m s days a es → P m s days a es
 
--- the accepted minutes are the first minutes of the year, each judged at its site and for its own day; the account holds just them
+-- R84: the accepted minutes are the first minutes of the year, each judged at its site and for its own day; the account holds just them
 abbrev pub Histories : Type 0
 Histories = OfEvery (λ m s days a es. FromMinute s days 0 es × Holds m a es)
 
--- an account stays that of its site and its list
+-- R84: an account stays that of its site and its list
 abbrev pub OpenedStays : Type 0
 OpenedStays = OfEvery (λ m s days a es. (a .site ≡ s) × (listedDays (a .maintenance) ≡ days))
 
--- what the calls require
+-- R89: what the calls require
 abbrev pub EveryKept : Type 0
 EveryKept = OfEvery (λ m s days a es. Kept a)
 
--- the account and its minutes are the same by any other positive masses
+-- R30: the account and its minutes are the same by any other positive masses
 abbrev pub ByAnyMasses : Type 0
 ByAnyMasses = OfEvery (λ m s days a es. (m' : Masses) → Positive m' → Reached m' s days a es)
 
--- the sums beside the exact sums with these masses
+-- R86: the sums beside the exact sums with these masses
 abbrev pub BesideTheTool : Masses → Account → List Entry → Type 0
 BesideTheTool m a es =
     Bounds (a .gas) (a .fed) (a .emitted) (a .destroyed) (exactTotal (emittedOf m) es) (exactTotal (destroyedOf m) es)
 
--- demand 3: "For any calls on an account, beside the tool's own equations as exact fractions, for any positive molecular mass", any for each minute
+-- R86: "For any calls on an account, beside the tool's own equations as exact fractions, for any positive molecular mass", any for each minute
 abbrev pub DemandThree : Type 0
 DemandThree = OfEvery (λ m s days a es. BesideTheTool m a es)
 
--- the same with the tool's own: that of each minute's gas, by equation (7)
+-- R31, R86: the same with the tool's own: that of each minute's gas, by equation (7)
 abbrev pub DemandThreeBySeven : Type 0
 DemandThreeBySeven = OfEvery (λ m s days a es. (MM : Each Frac) → AllPositive MM → BesideTheTool (by-equation-7 m MM) a es)

@@ -1,4 +1,4 @@
--- Document 01, "Single minute, for host programs in C or Rust": what the call returns, and what the answer buffer then holds.
+-- R64 to R66: "Single minute, for host programs in C or Rust": what the call returns, and what the answer buffer then holds.
 use Prim.Native.Nat.{ℕ}
 use mathlib.Core.Bool.{Bool, _&&_, not}
 use mathlib.Core.List.{List, [], _∷_, _++_}
@@ -19,7 +19,7 @@ use Rattle.tool06.specs.Judged.{beyondYear, oxygenLines}
 use Rattle.tool06.specs.Tool.{Masses}
 use Rattle.tool06.specs.declared.figures.Figures.{Figures}
 
--- "a 25-byte answer: fed, emitted, destroyed, eight bytes each, then the rule"; "the answer is big-endian"
+-- R66: "a 25-byte answer: fed, emitted, destroyed, eight bytes each, then the rule"; "the answer is big-endian"
 abbrev pub answerLayout : Layout Figures
 answerLayout =
     bytes 0 7 (λ f. f .fed)
@@ -28,14 +28,15 @@ answerLayout =
     ∷ bytes 24 24 (λ f. f .rule)
     ∷ []
 
+-- R66: the 25 bytes
 unfoldable pub answerBytes : Figures → List ℕ
 answerBytes f = laid answerLayout f
 
--- "days since maintenance .. (65,535: none)": in time where they are "not above the site's days"
+-- R65: "days since maintenance .. (65,535: none)": in time where they are "not above the site's days"
 unfoldable pub sinceInTime : Site → ℕ → Bool
 sinceInTime s days = not (eqb days 65535) && leb days (s .days)
 
--- "Order: 22, 1 to 9, minute 1, 2, 12, 13 (minute beyond the year), 14 to 19"
+-- R64: "Order: 22, 1 to 9, minute 1, 2, 12, 13 (minute beyond the year), 14 to 19"
 unfoldable pub singleLines : List ℕ → List ℕ → List ℕ → List Line
 singleLines site minute answer =
     bufferLines 25 answer
@@ -45,19 +46,20 @@ singleLines site minute answer =
     ++ minuteLines (beyondYear (siteOf site) (minuteOf minute)) (minuteOf minute)
     ++ oxygenLines (siteOf site) (minuteOf minute)
 
+-- R64: the first of these refusals, or none
 unfoldable pub single : List ℕ → List ℕ → List ℕ → Verdict
 single site minute answer = firstOf (singleLines site minute answer)
 
--- "It returns 0 or the refusal's number"
+-- R66: "It returns 0 or the refusal's number"
 unfoldable pub returned : Verdict → ℕ
 returned Fine = 0
 returned (Refuse r) = numberOf r
 
--- the minute's figures at its site
+-- R65, R66: the minute's figures at its site
 unfoldable pub singleFigures : Masses → List ℕ → List ℕ → ℕ → Figures
 singleFigures m site minute days = figures m (siteOf site) (minuteOf minute) (sinceInTime (siteOf site) days)
 
--- what the answer buffer holds afterwards: the answer, or where the call refuses what it held before
+-- R58, R66: what the answer buffer holds afterwards: the answer, or where the call refuses what it held before
 unfoldable pub answerAfter : Masses → List ℕ → List ℕ → ℕ → List ℕ → List ℕ
 answerAfter m site minute days answer =
     written answer (answerBytes (singleFigures m site minute days)) (single site minute answer)

@@ -1,4 +1,4 @@
--- Document 01, "The program `flare`": the lines that it prints.
+-- R69 to R73, R77: the lines that the program `flare` prints.
 use Prim.Native.Nat.{ℕ}
 use mathlib.Core.Bool.{cond}
 use mathlib.Core.List.{List, [], _++_}
@@ -15,14 +15,14 @@ use Rattle.account.specs.declared.close.Closed.{Closed}
 use Rattle.account.specs.declared.close.Closed.the-variants.{Tonnes, Refused as Missing}
 use Rattle.text.specs.Text.{text, decimal}
 
--- methane in mg, of a minute or of a year
+-- R69, R71: methane in mg, of a minute or of a year
 unfoldable pub methane : ℕ → ℕ → ℕ → List ℕ
 methane fed emitted destroyed =
     text " fed " ++ decimal fed
     ++ text " emitted " ++ decimal emitted
     ++ text " destroyed " ++ decimal destroyed
 
--- "Minute, rule, three mg figures"
+-- R69: "Minute, rule, three mg figures"
 unfoldable pub acceptedLine : ℕ → Figures → List ℕ
 acceptedLine minute f =
     text "minute " ++ decimal minute
@@ -30,18 +30,19 @@ acceptedLine minute f =
     ++ methane (f .fed) (f .emitted) (f .destroyed)
     ++ text "\n"
 
--- "`minute E refused R`, E the expected minute"
+-- R70: "`minute E refused R`, E the expected minute"
 unfoldable pub refusedLine : ℕ → Refusal → List ℕ
 refusedLine minute r =
     text "minute " ++ decimal minute
     ++ text " refused " ++ decimal (numberOf r)
     ++ text "\n"
 
+-- R69, R70: the line of a minute's answer
 abbrev pub minuteLine : ℕ → Judged → List ℕ
 minuteLine minute (Accepted f) = acceptedLine minute f
 minuteLine minute (Refused r) = refusedLine minute r
 
--- "then minutes accepted, minutes with gas, sums"
+-- R71: "then minutes accepted, minutes with gas, sums"
 unfoldable pub totalLine : Account → List ℕ
 totalLine a =
     text "total " ++ decimal (a .minutes)
@@ -50,19 +51,20 @@ totalLine a =
     ++ text " co2e " ++ decimal (co2e a)
     ++ text "\n"
 
--- "`open` becomes `tonnes T` when closed"
+-- R72: "`open` becomes `tonnes T` when closed"
 unfoldable pub standing : Closed → List ℕ
 standing (Tonnes t) = text " tonnes " ++ decimal t
 standing (Missing r) = text " open"
 
+-- R72: the year, and how it stands
 unfoldable pub yearLine : Account → List ℕ
 yearLine a = text "year " ++ decimal (a .site .year) ++ standing (closing a) ++ text "\n"
 
--- "A refused site prints only `site refused R`"
+-- R73: "A refused site prints only `site refused R`"
 unfoldable pub siteLine : Refusal → List ℕ
 siteLine r = text "site refused " ++ decimal (numberOf r) ++ text "\n"
 
--- the minutes under one rule, in words: "ten counts, one per rule"; words have at most 80 bytes, and with longer ones there is no line
+-- R77: the minutes under one rule, in words: "ten counts, one per rule"; words have at most 80 bytes, and with longer ones there is no line
 unfoldable pub ruleLine : ℕ → ℕ → List ℕ → List ℕ
 ruleLine rule minutes words =
     cond (leb (length words) 80)

@@ -1,4 +1,4 @@
--- Where a line is put in a buffer: from a place on, if there is room for any line there; else nowhere.
+-- R75: where a line is put in a buffer: from a place on, if there is room for any line there; else nowhere.
 use Prim.Native.Nat.{ℕ, _+_}
 use mathlib.Core.Bool.{Bool, cond}
 use mathlib.Core.List.{List}
@@ -6,14 +6,14 @@ use lib.Dec.{leb}
 use lib.ListN.{length}
 use Rattle.exact.specs.Bytes.{put}
 
--- no line is longer than 163 bytes: 43 of words and line end, and six numbers of at most 20 digits
+-- R75: no line is longer than 163 bytes: 43 of words and line end, and six numbers of at most 20 digits
 abbrev pub hasRoom : List ℕ → ℕ → Bool
 hasRoom buffer at = leb (at + 163) (length buffer)
 
--- what the buffer then holds
+-- R75: what the buffer then holds
 unfoldable pub placed : List ℕ → ℕ → List ℕ → List ℕ
 placed buffer at line = cond (hasRoom buffer at) (put buffer at line) buffer
 
--- the place after it
+-- R75: the place after it
 unfoldable pub placeAfter : List ℕ → ℕ → List ℕ → ℕ
 placeAfter buffer at line = cond (hasRoom buffer at) (at + length line) at

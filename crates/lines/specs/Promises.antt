@@ -1,4 +1,4 @@
--- What the lines promise: none is cut.
+-- R75: what the lines promise: none is cut.
 use Prim.Native.Nat.{ℕ, _≤_}
 use mathlib.Core.List.{List}
 use lib.ListN.{length}
@@ -7,7 +7,7 @@ use Rattle.tool06.specs.declared.figures.Judged.{Judged}
 use Rattle.account.specs.declared.Account.{Account}
 use Rattle.lines.specs.Lines.{minuteLine, totalLine, yearLine, siteLine, ruleLine}
 
--- no line is longer than 163 bytes, and each is put only where there is room for that many
+-- R75: no line is longer than 163 bytes, and each is put only where there is room for that many
 pub record NoneCut : Type 0 where
   pub minute : (expected : ℕ) (answer : Judged) → length (minuteLine expected answer) ≤ 163
   pub total : (a : Account) → length (totalLine a) ≤ 163

@@ -4,6 +4,7 @@ use mathlib.Core.Path.{ap, sym, _∙_}
 use denote.Ref.{now}
 use Rattle.exact.specs.One.{OneResult, OneOutcome}
 use Rattle.records.specs.House.{written}
+use Rattle.minute.proofs.Minute.has.Reads as has
 use Rattle.minute.proofs.Minute.read.Reads as read
 use Rattle.minute.proofs.Minute.verdict.Reads as verdict
 use Rattle.minute.proofs.Minute.write.Reads as write
@@ -22,3 +23,6 @@ verdict-one κs a x y e f p q = p ∙ sym q
 
 pub fields-in-one : (κs : _) (a : _) → OneResult (fields-in.Learnt κs a)
 fields-in-one κs a x y e f p q = p ∙ sym q
+
+pub has-one : (κs : _) (a : _) → OneResult (has.Learnt κs a)
+has-one κs a x y e f p q = p ∙ sym q

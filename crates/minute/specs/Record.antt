@@ -1,4 +1,4 @@
--- Document 01, "Records": the minute record, 54 bytes.
+-- R9: the minute record, 54 bytes.
 use Prim.Native.Nat.{ℕ}
 use mathlib.Core.List.{List, [], _∷_, _++_}
 use Rattle.exact.specs.Bytes.{signed, unsigned}
@@ -11,7 +11,7 @@ use Rattle.minute.specs.declared.Minute.{Minute}
 use Rattle.minute.specs.declared.MinuteRead.{MinuteRead}
 use Rattle.minute.specs.declared.MinuteRead.the-variants.{Fields, Refused}
 
--- the document's bytes and fields, "in the order CH4, CO, CO2, O2, H2, H2S, NH3, N2"
+-- R9: the table's bytes and fields, the gases "in the order CH4, CO, CO2, O2, H2, H2S, NH3, N2"
 abbrev pub minuteLayout : Layout Minute
 minuteLayout =
     bytes 3 6 (λ n. n .number)
@@ -30,7 +30,7 @@ minuteLayout =
     ∷ bytes 50 53 (λ n. n .exhaust .methane)
     ∷ []
 
--- the minute whose numbers these are, in the layout's order
+-- R9: the minute whose numbers these are, in the layout's order
 abbrev pub minute : Maker minuteLayout Minute
 minute number flags temperature litres ch4 co co2 o2 h2 h2s nh3 n2 oxygen methane = record {
   number = number;
@@ -41,18 +41,18 @@ minute number flags temperature litres ch4 co co2 o2 h2 h2s nh3 n2 oxygen methan
   exhaust = record { oxygen = oxygen; methane = methane };
 }
 
--- the fields of a record's bytes
+-- R9: the fields of a record's bytes
 abbrev pub minuteOf : List ℕ → Minute
 minuteOf b = readBy minuteLayout minute b
 
--- the bytes of a record's fields
+-- R7, R9: the bytes of a record's fields
 unfoldable pub minuteBytes : Minute → List ℕ
 minuteBytes n = houseForm 54 1 (laid minuteLayout n)
 
--- "Reading a minute alone, without a site, gives 1, 2, 12, 13 in that sense, 14 to 18"
+-- R61: "Reading a minute alone, without a site, gives 1, 2, 12, 13 in that sense, 14 to 18"
 unfoldable pub readMinute : List ℕ → MinuteRead
 readMinute b = answered Fields Refused (minuteOf b) (firstOf (headLines 54 1 b ++ aloneLines (minuteOf b)))
 
--- "Writing takes fields and a .. 54-byte buffer: 22, then the same field refusals"
+-- R60: "Writing takes fields and a .. 54-byte buffer: 22, then the same field refusals"
 unfoldable pub writeMinute : Minute → List ℕ → Verdict
 writeMinute n out = firstOf (bufferLines 54 out ++ aloneLines n)

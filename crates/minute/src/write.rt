@@ -1,7 +1,7 @@
 // Writing a minute record into any buffer.
 ghost use mathlib.Core.Path.{_≡_};
 ghost use lib.ListN.{length, take, drop};
-ghost use Rattle.exact.specs.Layout.{filled};
+ghost use Rattle.exact.specs.scaffold.Filled.{filled};
 ghost use Rattle.records.specs.House.{written};
 ghost use Rattle.minute.specs.Record.{minuteLayout, minuteBytes, writeMinute};
 use crate::Minute;

@@ -33,9 +33,9 @@ use Rattle.account.specs.declared.Account.{Account}
 use Rattle.account.specs.declared.close.Closed.the-variants.{Tonnes, Refused as NotClosed}
 use Rattle.run.specs.Check.{stopOr, firstRefused, wholeOr, checked}
 use Rattle.run.specs.declared.check.Checked.{Checked}
-use Rattle.host.specs.Single.{singleLines, single, singleFigures, returned}
+use Rattle.host.specs.Single.{singleLines, single, singleFigures, returned, answerAfter}
 use Rattle.promises.specs.Numbers.{Said, given, refused, saidOfSite, saidOfMinute, saidOfJudged, saidOfClosed, saidOfVerdict, saidOfChecked, saidOfClass, decides}
-use Rattle.promises.specs.Calls.{ReadingASite, ReadingAMinute, WritingASite, WritingAMinute, Opening, Adding, Closing, ASingleMinute, Classing, orLater, firstSaid, CheckingARun, NumbersOfCalls}
+use Rattle.promises.specs.Calls.{ReadingASite, ReadingAMinute, WritingASite, WritingAMinute, Opening, Adding, Closing, ASingleMinute, Classing, orLater, firstSaid, CheckingARun, NumbersOfCalls, BuffersStay}
 
 -- an answer of any type whose cases are values and a refusal
 by-table :
@@ -159,4 +159,12 @@ numbers-of-calls = record {
   closing-a-year = closing-a-year;
   checking-a-run = checking-a-run;
   a-single-minute = a-single-minute;
+}
+
+pub buffers-stay : BuffersStay
+unfolding answerAfter
+buffers-stay = record {
+  writing-a-site = λ s out r e. rw e refl;
+  writing-a-minute = λ n out r e. rw e refl;
+  a-single-minute = λ m site minute days answer r e. rw e refl;
 }

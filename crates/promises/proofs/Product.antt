@@ -3,12 +3,13 @@ use Rattle.site.proofs.RoundTrip.{site-reads-back, site-writes-back}
 use Rattle.site.proofs.Unique as site
 use Rattle.minute.proofs.RoundTrip.{minute-reads-back, minute-writes-back}
 use Rattle.minute.proofs.Unique as minute
-use Rattle.tool06.proofs.Kept.{fed-form, short-form, sign-of-F, equation-seven}
+use Rattle.tool06.proofs.Kept.{fed-form, short-form, sign-of-F, K-is-positive, equation-seven}
+use Rattle.tool06.proofs.Sums.{masses-cancel}
 use Rattle.rules.proofs.Unique.{class-of-one}
 use Rattle.account.proofs.Accepted.{nothing-else}
 use Rattle.account.proofs.Laws.{only-opened, refused-stays}
 use Rattle.account.proofs.Lossless.{lossless}
-use Rattle.account.proofs.Unique.{open-one, add-one, co2e-one, close-one, chart-one}
+use Rattle.account.proofs.Unique.{open-one, add-one, co2e-one, close-one, chart-one, site-one, minutes-one, gas-one, fed-one, emitted-one, destroyed-one, counts-one}
 use Rattle.run.proofs.Unique.{check-run-one, day-part-one}
 use Rattle.host.proofs.Unique.{flare-minute-one}
 use Rattle.history.proofs.Holds.{every-kept}
@@ -16,9 +17,12 @@ use Rattle.history.proofs.Opening.{opened-stays}
 use Rattle.history.proofs.Promises.{histories, by-any-masses, demand-three, demand-three-by-seven}
 use Rattle.history.proofs.Year.{equation-15}
 use Rattle.worked.proofs.Holds.{table-holds}
+use Rattle.text.proofs.ReadsBack.{reads-back}
+use Rattle.lines.proofs.NoneCut.{none-cut}
+use Rattle.report.proofs.Pieces.{in-pieces}
 use Rattle.promises.specs.Outcomes.{OneOutcomeOfCalls}
 use Rattle.promises.specs.Product.{Product}
-use Rattle.promises.proofs.Calls.{numbers-of-calls}
+use Rattle.promises.proofs.Calls.{numbers-of-calls, buffers-stay}
 
 one-outcome-of-calls : OneOutcomeOfCalls
 one-outcome-of-calls = record {
@@ -32,6 +36,13 @@ one-outcome-of-calls = record {
   co2-equivalent = co2e-one;
   closing-a-year = close-one;
   charting = chart-one;
+  reading-site = site-one;
+  reading-minutes = minutes-one;
+  reading-gas = gas-one;
+  reading-fed = fed-one;
+  reading-emitted = emitted-one;
+  reading-destroyed = destroyed-one;
+  reading-counts = counts-one;
   checking-a-run = check-run-one;
   part-of-a-day = day-part-one;
   a-single-minute = flare-minute-one;
@@ -41,15 +52,16 @@ pub product : Product
 product = record {
   numbers = numbers-of-calls;
   one-outcome = one-outcome-of-calls;
-  refusals = refused-stays;
+  refusals = (refused-stays, buffers-stay);
   accounts = (every-kept, only-opened);
   histories = (histories, opened-stays);
   nothing-else = nothing-else;
   round-trips = (site-reads-back, site-writes-back, minute-reads-back, minute-writes-back);
   examples = table-holds;
   chart-points = lossless;
+  printed = (none-cut, reads-back, in-pieces);
   demand-three = (demand-three, demand-three-by-seven);
   equation-15 = equation-15;
-  short-form = (fed-form, short-form, sign-of-F);
-  any-masses = (by-any-masses, equation-seven);
+  short-form = (fed-form, short-form, sign-of-F, K-is-positive);
+  any-masses = (masses-cancel, by-any-masses, equation-seven);
 }

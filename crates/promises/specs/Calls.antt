@@ -1,4 +1,4 @@
--- Each call's order of refusals, as document 01 lists it, and what it answers where none is given.
+-- R50, R58, R83: each call's order of refusals, and what it answers where none is given.
 use Prim.Native.Nat.{ℕ, zero, suc, _*_, _/_, _%_}
 use mathlib.Core.Path.{_≡_}
 use mathlib.Core.Bool.{not, cond}
@@ -9,8 +9,10 @@ use lib.IntN.{ℤ}
 use lib.ListN.{length, take, drop}
 use Rattle.exact.specs.Rounding.{ceilDiv}
 use Rattle.refusals.specs.Tables.{when}
+use Rattle.refusals.specs.declared.refusal.Refusal.{Refusal}
 use Rattle.refusals.specs.declared.refusal.Refusal.the-variants.{Incomplete}
-use Rattle.records.specs.House.{headLines, bufferLines}
+use Rattle.refusals.specs.declared.verdict.Verdict.the-variants.{Refuse}
+use Rattle.records.specs.House.{headLines, bufferLines, written}
 use Rattle.site.specs.Record.{siteOf, siteBytes, readSite, writeSite}
 use Rattle.site.specs.Rules.{siteLines}
 use Rattle.site.specs.declared.Site.{Site}
@@ -25,53 +27,54 @@ use Rattle.account.specs.Closing.{co2e, closing}
 use Rattle.account.specs.Opening.{openLines, opened}
 use Rattle.account.specs.declared.Account.{Account}
 use Rattle.run.specs.Check.{checked}
-use Rattle.host.specs.Single.{singleLines, single, singleFigures, returned}
+use Rattle.host.specs.Single.{singleLines, single, singleFigures, returned, answerAfter}
 use Rattle.promises.specs.Numbers.{Said, given, saidOfSite, saidOfMinute, saidOfJudged, saidOfClosed, saidOfVerdict, saidOfChecked, saidOfClass, _to_, By}
 
--- "Site: 1 to 9."
+-- R52: "Site: 1 to 9."
 abbrev pub ReadingASite : Type 0
 ReadingASite = (b : List ℕ) → By (1 to 9) (headLines 30 1 b ++ siteLines (siteOf b)) (saidOfSite (readSite b)) (siteOf b)
 
--- "Reading a minute alone .. gives 1, 2, 12, 13 in that sense, 14 to 18."
+-- R61: "Reading a minute alone .. gives 1, 2, 12, 13 in that sense, 14 to 18."
 abbrev pub ReadingAMinute : Type 0
 ReadingAMinute =
     (b : List ℕ) → By (1 ∷ 2 ∷ 12 to 18) (headLines 54 1 b ++ aloneLines (minuteOf b)) (saidOfMinute (readMinute b)) (minuteOf b)
 
--- "Writing ..: 22, then the same field refusals (for a site 3 to 9; for a minute 12 .. 18)"
+-- R60: "Writing ..: 22, then the same field refusals (for a site 3 to 9 ..)"
 abbrev pub WritingASite : Type 0
 WritingASite =
     (s : Site) (out : List ℕ) →
     By (22 ∷ 3 to 9) (bufferLines 30 out ++ siteLines s) (saidOfVerdict (siteBytes s) (writeSite s out)) (siteBytes s)
 
+-- R60: "(.. for a minute 12, 13 when it is not below 527,040, 14 to 18)"
 abbrev pub WritingAMinute : Type 0
 WritingAMinute =
     (n : Minute) (out : List ℕ) →
     By (22 ∷ 12 to 18) (bufferLines 54 out ++ aloneLines n) (saidOfVerdict (minuteBytes n) (writeMinute n out)) (minuteBytes n)
 
--- "Height at most twice the diameter: open. Above that and at most ten times: low. Above ten: tall."
+-- R17, R18: "Height at most twice the diameter: open. Above that and at most ten times: low. Above ten: tall."
 abbrev pub Classing : Type 0
 Classing =
     (s : Site) →
     saidOfClass (classOf s)
     ≡ given (cond (leb (s .height) (2 * s .diameter)) "open" (cond (leb (s .height) (10 * s .diameter)) "low" "tall"))
 
--- "Opening an account takes a site's fields: 3 to 9, then 10."
+-- R53: "Opening an account takes a site's fields: 3 to 9, then 10."
 abbrev pub Opening : Type 0
 Opening =
     (s : Site) (days : List ℤ) →
     By (3 to 10) (openLines s days) (saidOfVerdict (opened s days .account) (opened s days .verdict)) (opened s days .account)
 
--- "Adding a minute: 11, 1, 2, 12 to 19."
+-- R55, R56: "Adding a minute: 11, 1, 2, 12 to 19."
 abbrev pub Adding : Type 0
 Adding =
     (m : Masses) (a : Account) (b : List ℕ) →
     By (11 ∷ 1 ∷ 2 ∷ 12 to 19) (addLines a b) (saidOfJudged (addTo m a b .answer)) (figuresOf m (entry a b))
 
--- "Closing gives tonnes CO2 equivalent, rounded up, once every minute is in", else 20
+-- R48: "Closing gives tonnes CO2 equivalent, rounded up, once every minute is in", else 20
 abbrev pub Closing : Type 0
 Closing = (a : Account) → By (20 ∷ []) (when (not (isFull a)) Incomplete ∷ []) (saidOfClosed (closing a)) (ceilDiv (co2e a) 1000000000)
 
--- "Order: 22, 1 to 9, minute 1, 2, 12, 13 (minute beyond the year), 14 to 19. It returns 0 or the refusal's number"
+-- R64, R66: "Order: 22, 1 to 9, minute 1, 2, 12, 13 (minute beyond the year), 14 to 19. It returns 0 or the refusal's number"
 abbrev pub ASingleMinute : Type 0
 ASingleMinute =
     (m : Masses) (site minute : List ℕ) (days : ℕ) (answer : List ℕ) →
@@ -79,26 +82,26 @@ ASingleMinute =
     By (22 ∷ 1 to 9 ++ (1 ∷ 2 ∷ 12 to 19)) (singleLines site minute answer) said (singleFigures m site minute days)
     × (returned (single site minute answer) ≡ said .number)
 
--- the place of the expected minute, where adding it says a number that is not 0; else what is said later
+-- R62: the place of the expected minute, where adding it says a number that is not 0; else what is said later
 abbrev pub orLater : ℕ → ℕ → Said (ℕ × ℕ) → Said (ℕ × ℕ)
 orLater zero expected later = later
 orLater (suc k) expected later = record { number = suc k; values = some (expected / 1440, expected % 1440) }
 
--- "the first record that adding them in turn would refuse, as day, minute of the day (from the expected minute) and number, or none", of n records
+-- R62: "the first record that adding them in turn would refuse, as day, minute of the day (from the expected minute) and number, or none", of n records
 abbrev pub firstSaid : Masses → ℕ → Account → List ℕ → Said (ℕ × ℕ)
 firstSaid m zero a run = record { number = 0; values = none }
 firstSaid m (suc n) a run =
     let added = addTo m a (take 54 run) in
     orLater (saidOfJudged (added .answer) .number) (a .minutes) (firstSaid m n (added .account) (drop 54 run))
 
--- "a lent run of whole records (else 1, without a place)"
+-- R62: "a lent run of whole records (else 1, without a place)"
 abbrev pub CheckingARun : Type 0
 CheckingARun =
     (m : Masses) (a : Account) (run : List ℕ) →
     saidOfChecked (checked m a run)
     ≡ cond (eqb (length run % 54) 0) (firstSaid m (length run / 54) a run) (record { number = 1; values = none })
 
--- every call that answers a number or a refusal
+-- R83: every call that answers a number or a refusal
 pub record NumbersOfCalls : Type 0 where
   pub reading-a-site : ReadingASite
   pub reading-a-minute : ReadingAMinute
@@ -110,3 +113,11 @@ pub record NumbersOfCalls : Type 0 where
   pub closing-a-year : Closing
   pub checking-a-run : CheckingARun
   pub a-single-minute : ASingleMinute
+
+-- R58, R83: "every lent byte stay[s]": a call that refuses leaves its buffer as it was
+pub record BuffersStay : Type 0 where
+  pub writing-a-site : (s : Site) (out : List ℕ) (r : Refusal) → writeSite s out ≡ Refuse r → written out (siteBytes s) (writeSite s out) ≡ out
+  pub writing-a-minute : (n : Minute) (out : List ℕ) (r : Refusal) → writeMinute n out ≡ Refuse r → written out (minuteBytes n) (writeMinute n out) ≡ out
+  pub a-single-minute :
+      (m : Masses) (site minute : List ℕ) (days : ℕ) (answer : List ℕ) (r : Refusal) →
+      single site minute answer ≡ Refuse r → answerAfter m site minute days answer ≡ answer

@@ -1,4 +1,4 @@
--- Document 01, "Numbers a caller gets back": the number and the values of each answer's cases.
+-- R58: the number and the values of each answer's cases.
 use Prim.Native.Nat.{ℕ, zero, suc, _-_}
 use Prim.Native.String.{String}
 use mathlib.Core.Path.{_≡_}
@@ -26,59 +26,63 @@ use Rattle.account.specs.declared.close.Closed.the-variants.{Tonnes, Refused as
 use Rattle.run.specs.declared.check.Checked.{Checked}
 use Rattle.run.specs.declared.check.Checked.the-variants.{Fine as NoneRefused, Run, At}
 
--- what comes back: a number, 0 where nothing is refused, and the values beside it, if there are any
+-- R58: what comes back: a number, 0 where nothing is refused, and the values beside it, if there are any
 pub record Said (A : Type 0) : Type 0 where
   pub number : ℕ
   pub values : Option A
 
+-- R58: 0, with values beside it
 abbrev pub given : {A : Type 0} → A → Said A
 given v = record { number = 0; values = some v }
 
--- "A refusal returns its number and nothing else"
+-- R58: "A refusal returns its number and nothing else"
 abbrev pub refused : {A : Type 0} → Refusal → Said A
 refused r = record { number = numberOf r; values = none }
 
--- the answers' cases
+-- R52, R58: reading a site
 abbrev pub saidOfSite : SiteRead → Said Site
 saidOfSite (SiteFields s) = given s
 saidOfSite (SiteRefused r) = refused r
 
+-- R58, R61: reading a minute
 abbrev pub saidOfMinute : MinuteRead → Said Minute
 saidOfMinute (MinuteFields n) = given n
 saidOfMinute (MinuteRefused r) = refused r
 
+-- R56, R58: adding a minute
 abbrev pub saidOfJudged : Judged → Said Figures
 saidOfJudged (Accepted f) = given f
 saidOfJudged (Refused r) = refused r
 
+-- R48, R58: closing
 abbrev pub saidOfClosed : Closed → Said ℕ
 saidOfClosed (Tonnes t) = given t
 saidOfClosed (NotClosed r) = refused r
 
--- a verdict, where this stands beside one that refuses nothing
+-- R58: a verdict, where this stands beside one that refuses nothing
 abbrev pub saidOfVerdict : {A : Type 0} → A → Verdict → Said A
 saidOfVerdict v Fine = given v
 saidOfVerdict v (Refuse r) = refused r
 
--- "as day, minute of the day .. and number, or none"; "else 1, without a place"
+-- R58, R62: "as day, minute of the day .. and number, or none"; "else 1, without a place"
 abbrev pub saidOfChecked : Checked → Said (ℕ × ℕ)
 saidOfChecked NoneRefused = record { number = 0; values = none }
 saidOfChecked (Run r) = record { number = numberOf r; values = none }
 saidOfChecked (At day minute r) = record { number = numberOf r; values = some (day, minute) }
 
--- the document's word for a class, which refuses nothing
+-- R18, R58: the word for a class, which refuses nothing
 abbrev pub saidOfClass : Class → Said String
 saidOfClass Open = given "open"
 saidOfClass Low = given "low"
 saidOfClass Tall = given "tall"
 
--- "First match decides"
+-- R50: "First match decides"
 abbrev pub decides : {A : Type 0} → List Line → A → Said A
 decides [] v = given v
 decides (when true r ∷ rest) v = refused r
 decides (when false r ∷ rest) v = decides rest v
 
--- the numbers of a table, "in the order listed for each call"
+-- R50: the numbers of a table, "in the order listed for each call"
 abbrev pub numbers : List Line → List ℕ
 numbers [] = []
 numbers (when bad r ∷ rest) = numberOf r ∷ numbers rest
@@ -93,7 +97,7 @@ infixl 70 _to_
 abbrev pub _to_ : ℕ → ℕ → List ℕ
 first to last = countedFrom (suc last - first) first
 
--- what is said is decided by a table of these numbers in this order; where none of its lines matches, it is these values
+-- R50: what is said is decided by a table of these numbers in this order; where none of its lines matches, it is these values
 pub record By (order : List ℕ) (table : List Line) {A : Type 0} (said : Said A) (values : A) : Type 0 where
   pub in-order : numbers table ≡ order
   pub decided : said ≡ decides table values

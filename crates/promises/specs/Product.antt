@@ -3,36 +3,45 @@
 use Rattle.records.specs.RoundTrip.{ReadsBack, WritesBack}
 use Rattle.site.specs.Promises.{siteKind}
 use Rattle.minute.specs.Promises.{minuteKind}
-use Rattle.tool06.specs.Promises.{FedForm, ShortForm, SignOfF, EquationSeven}
+use Rattle.tool06.specs.Promises.{FedForm, ShortForm, SignOfF, KPositive, EquationSeven}
+use Rattle.tool06.specs.Bounds.{MassesCancel}
 use Rattle.account.specs.Promises.{OnlyOpened, RefusedStays, NothingElse, Lossless}
 use Rattle.history.specs.Promises.{EveryKept, Histories, OpenedStays, ByAnyMasses, DemandThree, DemandThreeBySeven}
 use Rattle.history.specs.Year.{Equation15}
 use Rattle.worked.specs.Table.{TableHolds}
-use Rattle.promises.specs.Calls.{NumbersOfCalls}
+use Rattle.text.specs.Promises.{DecimalsReadBack}
+use Rattle.lines.specs.Promises.{NoneCut}
+use Rattle.report.specs.Promises.{InPieces}
+use Rattle.promises.specs.Calls.{NumbersOfCalls, BuffersStay}
 use Rattle.promises.specs.Outcomes.{OneOutcomeOfCalls}
 
+-- R83 to R89: every promise, of which this is the one page
 pub record Product : Type 1 where
-  -- Demand 1. Each call answers a result, or the first of the paper's numbers in the order listed for it
+  -- R83: demand 1. Each call answers a result, or the first of the numbered refusals in the order listed for it
   pub numbers : NumbersOfCalls
-  -- one outcome of each call, for every input
+  -- R88: one outcome of each call, for every input
   pub one-outcome : OneOutcomeOfCalls
-  -- a refused call changes nothing
-  pub refusals : RefusedStays
-  -- the calls take every account that they gave, and none beside a refused opening
+  -- R58, R83: a refused call changes neither the account nor a lent buffer
+  pub refusals : RefusedStays × BuffersStay
+  -- R54, R89: the calls take every account that they gave, and none beside a refused opening
   pub accounts : EveryKept × OnlyOpened
-  -- Demand 2. The minutes accepted are the first of the year, judged at the account's site, and it holds exactly their sums and counts
+  -- R84: demand 2. The minutes accepted are the first of the year, judged at the account's site, and it holds exactly their sums and counts
   pub histories : Histories × OpenedStays
-  -- figures depend on nothing but site, record and maintenance in time
+  -- R45: figures depend on nothing but site, record and maintenance in time
   pub nothing-else : NothingElse
-  -- what is written reads back, and what is read writes back
+  -- R85: what is written reads back, and what is read writes back
   pub round-trips : ReadsBack siteKind × WritesBack siteKind × ReadsBack minuteKind × WritesBack minuteKind
-  -- the paper's examples marked P, and a chart point's sums without loss
+  -- R67: the examples marked P
   pub examples : TableHolds
+  -- R49: a chart point's sums without loss
   pub chart-points : Lossless
-  -- Demand 3. The sums beside the tool's equations, with any positive molecular mass for each minute, and with that of each minute's own gas
+  -- R74 to R76: no printed line is cut, its numbers read back, and records may come in pieces
+  pub printed : NoneCut × DecimalsReadBack × InPieces
+  -- R86: demand 3. The sums beside the tool's equations, with any positive molecular mass for each minute, and with that of each minute's own gas
   pub demand-three : DemandThree × DemandThreeBySeven
-  -- CO2 equivalent and the tonnes beside equation (15)
+  -- R87: CO2 equivalent and the tonnes beside equation (15)
   pub equation-15 : Equation15
-  -- The short form is the tool's equations, and no masses change an account
-  pub short-form : FedForm × ShortForm × SignOfF
-  pub any-masses : ByAnyMasses × EquationSeven
+  -- R40 to R42: the short form is the tool's equations
+  pub short-form : FedForm × ShortForm × SignOfF × KPositive
+  -- R30, R31: no positive masses change an account, and equation (7) gives such
+  pub any-masses : MassesCancel × ByAnyMasses × EquationSeven

@@ -8,7 +8,8 @@ use borrow.Author.Tests.{eqb-true, not-false}
 use lib.Dec.{eqb}
 use lib.ListN.{length}
 use Rattle.exact.specs.Bytes.{bytesOf, put}
-use Rattle.exact.specs.Layout.{Layout, laid, filled, gapless}
+use Rattle.exact.specs.Layout.{Layout, laid, gapless}
+use Rattle.exact.specs.scaffold.Filled.{filled}
 use Rattle.exact.proofs.Layouts.{within, filled-laid}
 use Rattle.refusals.specs.Tables.{Line, firstOf, also, followedBy}
 use Rattle.records.specs.House.{houseForm, bufferLines}

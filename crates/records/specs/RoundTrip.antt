@@ -1,4 +1,4 @@
--- Demand 2's last sentence, for a record of any kind: written into a buffer and read from it, and read and written again.
+-- R85: the round trips of a record of any kind: written into a buffer and read from it, and read and written again.
 use Prim.Native.Nat.{ℕ}
 use mathlib.Core.Path.{_≡_}
 use mathlib.Core.List.{List}
@@ -8,7 +8,7 @@ use Rattle.records.specs.House.{written}
 use Rattle.refusals.specs.declared.verdict.Verdict.{Verdict}
 use Rattle.refusals.specs.declared.verdict.Verdict.the-variants.{Fine}
 
--- a kind of record: its fields, what reading it answers, its size, and its calls
+-- R85: a kind of record: its fields, what reading it answers, its size, and its calls
 pub record Kind : Type 1 where
   pub Fields : Type 0
   pub Answer : Type 0
@@ -18,14 +18,14 @@ pub record Kind : Type 1 where
   pub write : Fields → List ℕ → Verdict
   pub read : List ℕ → Answer
 
--- "Written records read back to the same fields"
+-- R85: "Written records read back to the same fields"
 abbrev pub ReadsBack : Kind → Type 0
 ReadsBack k =
     (s : k .Fields) (out : List ℕ)
     → k .write s out ≡ Fine
     → k .read (written out (k .image s) (k .write s out)) ≡ k .accepted s
 
--- "read records write back to the same bytes"
+-- R85: "read records write back to the same bytes"
 abbrev pub WritesBack : Kind → Type 0
 WritesBack k =
     (b : List ℕ) (s : k .Fields) (out : List ℕ)

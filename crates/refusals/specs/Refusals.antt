@@ -1,8 +1,9 @@
--- Document 01, "Numbers a caller gets back": the number of each name.
+-- R51: the refusals and their numbers.
 use Prim.Native.Nat.{ℕ}
 use Rattle.refusals.specs.declared.refusal.Refusal.{Refusal}
 use Rattle.refusals.specs.declared.refusal.Refusal.the-variants.{Length, Version, Method, Year, Gwp, Size, Spec, Open, Schedule, List, Full, Flags, Order, Flow, Composition, Methane, Temperature, Exhaust, Oxygen, Incomplete, Day, Buffer}
 
+-- R51: the number of each name
 abbrev pub numberOf : Refusal → ℕ
 numberOf Length = 1
 numberOf Version = 2

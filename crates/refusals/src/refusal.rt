@@ -1,4 +1,4 @@
-// Why a call refuses: document 01, "Numbers a caller gets back".
+// Why a call refuses: R51 of docs/RULES.md has each name, its number, and when it is given.
 ghost use mathlib.Core.Path.{_≡_};
 ghost use Rattle.refusals.specs.Refusals.{numberOf};
 
@@ -28,7 +28,7 @@ pub enum Refusal {
 }
 
 impl Refusal {
-    // The number that the document gives it.
+    // Its number.
     pub fn number(self) -> u8
         ensures { λ r. ⌜ r ≡ numberOf self ⌝ }
     {

@@ -54,7 +54,7 @@ fn flow_unfit(range: Flows, litres: u32) -> bool
     (litres < range.lowest) | (range.highest < litres)
 }
 
-// The number of the first rule that applies, in document 01's order.
+// The number of the first rule that applies, in the order of R19 in docs/RULES.md.
 pub fn rule_of(site: Site, minute: Minute, in_time: bool) -> u8
     ensures { λ r. ⌜ r ≡ theRule site minute in_time .number ⌝ }
 {

@@ -1,4 +1,4 @@
--- Document 01, "Records": the site record, 30 bytes.
+-- R8: the site record, 30 bytes.
 use Prim.Native.Nat.{ℕ}
 use mathlib.Core.List.{List, [], _∷_, _++_}
 use Rattle.exact.specs.Bytes.{signed, unsigned}
@@ -11,7 +11,7 @@ use Rattle.site.specs.declared.Site.{Site}
 use Rattle.site.specs.declared.SiteRead.{SiteRead}
 use Rattle.site.specs.declared.SiteRead.the-variants.{Fields, Refused}
 
--- the document's table, bytes and field
+-- R8: the table's bytes and fields
 abbrev pub siteLayout : Layout Site
 siteLayout =
     bytes 3 3 (λ s. s .method)
@@ -26,7 +26,7 @@ siteLayout =
     ∷ bytes 28 29 (λ s. s .days)
     ∷ []
 
--- the site whose numbers these are, in the table's order
+-- R8: the site whose numbers these are, in the table's order
 abbrev pub site : Maker siteLayout Site
 site method year gwp height diameter coldest hottest least most days = record {
   method = method;
@@ -39,18 +39,18 @@ site method year gwp height diameter coldest hottest least most days = record {
   days = days;
 }
 
--- the fields of a record's bytes
+-- R8: the fields of a record's bytes
 abbrev pub siteOf : List ℕ → Site
 siteOf b = readBy siteLayout site b
 
--- the bytes of a record's fields
+-- R7, R8: the bytes of a record's fields
 unfoldable pub siteBytes : Site → List ℕ
 siteBytes s = houseForm 30 1 (laid siteLayout s)
 
--- "Site: 1 to 9"
+-- R52: "Site: 1 to 9"
 unfoldable pub readSite : List ℕ → SiteRead
 readSite b = answered Fields Refused (siteOf b) (firstOf (headLines 30 1 b ++ siteLines (siteOf b)))
 
--- "Writing takes fields and a 30- .. byte buffer: 22, then the same field refusals (for a site 3 to 9 ..)"
+-- R60: "Writing takes fields and a 30- .. byte buffer: 22, then the same field refusals (for a site 3 to 9 ..)"
 unfoldable pub writeSite : Site → List ℕ → Verdict
 writeSite s out = firstOf (bufferLines 30 out ++ siteLines s)

@@ -1,4 +1,4 @@
--- Document 01, "Records" and "Numbers a caller gets back": the ranges of a site's fields, and its refusals 3 to 9 in their order.
+-- R8, R51, R52: the ranges of a site's fields, and its refusals 3 to 9 in their order.
 use Prim.Native.Nat.{ℕ, _*_, _%_}
 use mathlib.Core.Path.{_≡_}
 use mathlib.Core.Bool.{Bool, true, false, _||_, _&&_, not}
@@ -14,35 +14,39 @@ use Rattle.site.specs.declared.Temperatures.{Temperatures}
 use Rattle.site.specs.declared.Flows.{Flows}
 use Rattle.site.specs.declared.Site.{Site}
 
--- "method: 0 default, 1 measured each minute"
+-- R1, R8: method "0 default", the tool's Option A
 abbrev pub isDefault : Site → Bool
 isDefault s = eqb (s .method) 0
 
+-- R1, R8: method "1 measured each minute", the tool's Option B.2
 abbrev pub isMeasured : Site → Bool
 isMeasured s = eqb (s .method) 1
 
+-- R8, R51: 3, neither of the two
 abbrev pub methodWrong : Site → Bool
 methodWrong s = not (isDefault s || isMeasured s)
 
+-- R8, R51: 4, outside 2000..2099
 abbrev pub yearWrong : Site → Bool
 yearWrong s = outside 2000 2099 (s .year)
 
+-- R8, R51: 5, outside 1..100
 abbrev pub gwpWrong : Site → Bool
 gwpWrong s = outside 1 100 (s .gwp)
 
--- "height or diameter"
+-- R8, R51: 6, "height or diameter"
 abbrev pub sizeWrong : Site → Bool
 sizeWrong s = above 100000 (s .height) || outside 1 100000 (s .diameter)
 
--- "a temperature .. limit outside its range or reversed"
+-- R8, R51: 7, "a temperature .. limit outside its range or reversed"
 abbrev pub temperaturesWrong : Temperatures → Bool
 temperaturesWrong t = temperatureOutside (t .lowest) || temperatureOutside (t .highest) || ltZ (t .highest) (t .lowest)
 
--- ".. or flow limit outside its range or reversed"
+-- R8, R51: 7, ".. or flow limit outside its range or reversed"
 abbrev pub flowsWrong : Flows → Bool
 flowsWrong f = flowOutside (f .lowest) || flowOutside (f .highest) || ltb (f .highest) (f .lowest)
 
--- "Height at most twice the diameter: open"
+-- R17: "Height at most twice the diameter: open"
 abbrev pub isOpen : Site → Bool
 isOpen s = leb (s .height) (2 * s .diameter)
 
@@ -50,15 +54,15 @@ abbrev leapOr : Bool → ℕ
 leapOr true = 527040
 leapOr false = 525600
 
--- "A year has 525,600 minutes, or 527,040 when divisible by four"
+-- R13: "A year has 525,600 minutes, or 527,040 when divisible by four"
 abbrev pub yearMinutes : ℕ → ℕ
 yearMinutes year = leapOr (eqb (year % 4) 0)
 
--- "1..3,660 measured, 0..3,660 default"
+-- R8, R51: 9, outside "1..3,660 measured, 0..3,660 default"
 abbrev pub scheduleWrong : Site → Bool
 scheduleWrong s = above 3660 (s .days) || (isMeasured s && ltb (s .days) 1)
 
--- "Opening an account takes a site's fields: 3 to 9"
+-- R51, R52: 3 to 9, of a site's fields
 unfoldable pub siteLines : Site → List Line
 siteLines s =
     when (methodWrong s) Method
@@ -70,6 +74,6 @@ siteLines s =
     ∷ when (scheduleWrong s) Schedule
     ∷ []
 
--- none of 3 to 9
+-- R52, R57: none of 3 to 9
 abbrev pub Examined : Site → Type 0
 Examined s = firstOf (siteLines s) ≡ Fine

@@ -1,7 +1,7 @@
 // Writing a site record into any buffer.
 ghost use mathlib.Core.Path.{_≡_};
 ghost use lib.ListN.{length, take, drop};
-ghost use Rattle.exact.specs.Layout.{filled};
+ghost use Rattle.exact.specs.scaffold.Filled.{filled};
 ghost use Rattle.records.specs.House.{written};
 ghost use Rattle.site.specs.Record.{siteLayout, siteBytes, writeSite};
 use crate::Site;

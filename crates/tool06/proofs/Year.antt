@@ -24,4 +24,4 @@ pub PE-mg : (m : Masses) (GWP : ℕ) (es : List Entry) → PE-flare m GWP es ⊗
 unfolding PE-flare
 PE-mg m GWP es =
     let a : (g s k b : Frac) → g ⊗ s ⊗ k ⊗ b ≡ s ⊗ (k ⊗ b) ⊗ g = λ g s k b. simp mul-ac in
-    a _ _ _ _ ∙ rw (scales, in-mg m es)
+    a (whole GWP) (exactTotal (emittedKg m) es) (whole 1 ⊘ whole 1000) (whole 1000000000) ∙ rw (scales, in-mg m es)

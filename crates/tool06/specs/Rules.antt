@@ -1,4 +1,4 @@
--- Document 01, "Efficiency, by the first rule that applies".
+-- R19 to R28: "Efficiency, by the first rule that applies".
 use Prim.Native.Nat.{ℕ}
 use mathlib.Core.Bool.{Bool, true, false, not}
 use mathlib.Core.List.{List, [], _∷_}
@@ -13,75 +13,78 @@ use Rattle.tool06.specs.declared.class.Class.the-variants.{Open, Low, Ta
 use Rattle.tool06.specs.Class.{classOf}
 use Rattle.tool06.specs.Tool.{Masses, η-calc}
 
--- a rule: its number, and the efficiency that it gives, for any masses
+-- R19: a rule: its number, and the efficiency that it gives, for any masses
 pub record Rule : Type 0 where
   pub number : ℕ
   pub efficiency : Masses → Frac
 
+-- R19: the rule of this number with this efficiency
 abbrev pub rule : ℕ → (Masses → Frac) → Rule
 rule k η = record { number = k; efficiency = η }
 
--- a line of the list: a rule, and when it applies
+-- R19: a line of the list: a rule, and when it applies
 pub data RuleLine : Type 0 where
   when : Bool → Rule → RuleLine
 
--- the first rule that applies, or else the last
+-- R19: the first rule that applies, or else the last
 abbrev pub first : List RuleLine → Rule → Rule
 first [] last = last
 first (when true r ∷ rest) last = r
 first (when false r ∷ rest) last = first rest last
 
--- the tool's paragraphs 24 and 38: for low height flares "subtracting 10 percentile points"
+-- R3, R26: the tool's paragraphs 24 and 38: for low height flares "subtracting 10 percentile points"
 abbrev pub lowered : Class → Frac → Frac
 lowered Open η = η
 lowered Low η = η ⊖ whole 1 ⊘ whole 10
 lowered Tall η = η
 
+-- R20, R21, R23, R24, R27: efficiency 0
 abbrev pub nothing : Masses → Frac
 nothing m = whole 0
 
--- paragraph 19
+-- R22: 1/2, the tool's paragraph 19
 abbrev pub half : Masses → Frac
 half m = whole 1 ⊘ whole 2
 
--- paragraphs 22 and 24
+-- R25: 9/10, low 8/10, the tool's paragraphs 22 and 24
 abbrev pub byDefault : Site → Masses → Frac
 byDefault s m = lowered (classOf s) (whole 9 ⊘ whole 10)
 
--- paragraphs 29 and 38; document 01: "never below 0"
+-- R28: the tool's paragraphs 29 and 38, and "never below 0"
 abbrev pub measured : Site → Minute → Masses → Frac
 measured s n m = at-least-zero (lowered (classOf s) (η-calc m n))
 
--- "Ends of each specification range are inside"
+-- R24: "Ends of each specification range are inside"
 abbrev pub temperatureUnfit : Site → Minute → Bool
 temperatureUnfit s n = outsideZ (s .temperature .lowest) (s .temperature .highest) (n .temperature)
 
+-- R24: the same of the flow
 abbrev pub flowUnfit : Site → Minute → Bool
 flowUnfit s n = outside (s .flow .lowest) (s .flow .highest) (n .litres)
 
--- in the document's order, in which 3 stands after 6
+-- R19: the rules in their order, in which 3 stands after 6
 unfoldable pub ruleLines : Site → Minute → Bool → List RuleLine
 ruleLines s n inTime =
-    -- "no gas (0 litres)": no methane, so that any efficiency gives the same
+    -- R20: "no gas (0 litres)": no methane, so that any efficiency gives the same
     when (not (hasGas n)) (rule 0 nothing)
-    -- "no flame: 0"
+    -- R21: "no flame: 0"
     ∷ when (not (flameSeen n)) (rule 1 nothing)
-    -- "open: 1/2"
+    -- R22: "open: 1/2"
     ∷ when (isOpen s) (rule 2 half)
-    -- "temperature missing: 0"
+    -- R23: "temperature missing: 0"
     ∷ when (not (temperaturePresent n)) (rule 4 nothing)
-    -- "temperature outside the specification: 0"
+    -- R24: "temperature outside the specification: 0"
     ∷ when (temperatureUnfit s n) (rule 5 nothing)
-    -- "flow outside it: 0"
+    -- R24: "flow outside it: 0"
     ∷ when (flowUnfit s n) (rule 6 nothing)
-    -- "default method: 9/10, low 8/10"
+    -- R25: "default method: 9/10, low 8/10"
     ∷ when (isDefault s) (rule 3 (byDefault s))
-    -- "maintenance overdue: 0"
+    -- R27: "maintenance overdue: 0"
     ∷ when (not inTime) (rule 7 nothing)
-    -- "exhaust readings missing: 0"
+    -- R27: "exhaust readings missing: 0"
     ∷ when (not (exhaustPresent n)) (rule 8 nothing)
     ∷ []
 
--- "measured: one less F_EG/F_RG, low 1/10 less again, never below 0"
+-- R19, R28: the first of these, or else "measured: one less F_EG/F_RG, low 1/10 less again, never below 0"
 unfoldable pub theRule : Site → Minute → Bool → Rule
 theRule s n inTime = first (ruleLines s n inTime) (rule 9 (measured s n))

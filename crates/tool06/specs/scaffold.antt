@@ -1,2 +1,2 @@
--- What only the code and its proofs need. Nobody needs to believe it: the contracts above are stated by the definitions beside this folder.
+-- What only the code and its proofs need: no promise rests on what is said here.
 pub mod Nanograms

@@ -1,4 +1,4 @@
--- Document 01, "Examples beside each edge": the lines marked P.
+-- R67: the worked minutes, which are the examples marked P.
 use Prim.Native.Nat.{ℕ, _+_}
 use mathlib.Core.Path.{_≡_}
 use mathlib.Core.Bool.{true, false}
@@ -17,7 +17,7 @@ use Rattle.tool06.specs.declared.figures.Judged.{Judged}
 use Rattle.tool06.specs.declared.figures.Judged.the-variants.{Accepted, Refused}
 use Rattle.worked.specs.declared.Example.{Example}
 
--- a flare 1,000 mm wide of this method (0 default, 1 measured) and height in mm
+-- R67: a flare 1,000 mm wide of this method (0 default, 1 measured) and height in mm
 abbrev pub flare : ℕ → ℕ → Site
 flare method height = record {
   method = method;
@@ -45,7 +45,7 @@ lowMeasured = flare 1 10000
 abbrev tallMeasured : Site
 tallMeasured = flare 1 10001
 
--- what each flag is worth
+-- R10: what each flag is worth
 abbrev flame : ℕ
 flame = 1
 
@@ -55,7 +55,7 @@ temperature = 2
 abbrev exhaust : ℕ
 exhaust = 4
 
--- a minute at 800 degrees, "inside the specification", with exhaust readings: "a 90,000", and f
+-- R67: a minute at 800 degrees, "inside the specification", with exhaust readings: "a 90,000", and f
 abbrev pub reading : ℕ → ℕ → Gas → ℕ → Minute
 reading flags litres g f = record {
   number = 0;
@@ -66,29 +66,30 @@ reading flags litres g f = record {
   exhaust = record { oxygen = 90000; methane = f };
 }
 
--- "Enclosed lines: lit, inside the specification, readings present"; the open ones have the same readings
+-- R67: "Enclosed lines: lit, inside the specification, readings present"; the open ones have the same readings
 abbrev lit : ℕ → Gas → ℕ → Minute
 lit litres g f = reading (flame + temperature + exhaust) litres g f
 
 abbrev unlit : ℕ → Gas → ℕ → Minute
 unlit litres g f = reading (temperature + exhaust) litres g f
 
--- ppm of CH4, CO2, O2 and N2
+-- R67: ppm of CH4, CO2, O2 and N2
 abbrev pub gas : ℕ → ℕ → ℕ → ℕ → Gas
 gas ch4 co2 o2 n2 = record { ch4 = ch4; co = 0; co2 = co2; o2 = o2; h2 = 0; h2s = 0; nh3 = 0; n2 = n2 }
 
--- "Gas G: 1,000 litres, CH4 600,000, CO2 400,000"
+-- R67: "Gas G: 1,000 litres, CH4 600,000, CO2 400,000"
 abbrev G : Gas
 G = gas 600000 400000 0 0
 
--- the rule, and fed, emitted and destroyed in mg
+-- R67: the rule, and fed, emitted and destroyed in mg
 abbrev pub answers : ℕ → ℕ → ℕ → ℕ → Judged
 answers rule fed emitted destroyed = Accepted (record { rule = rule; fed = fed; emitted = emitted; destroyed = destroyed })
 
+-- R67: a line of the table: a site, a minute, and what it answers
 abbrev pub line : Site → Minute → Judged → Example
 line site minute answer = record { site = site; minute = minute; answer = answer }
 
--- G with f 100 where a line says no other gas or f; "fed 429,600 mg; answers are emitted, destroyed"
+-- R67: G with f 100 where a line says no other gas or f; "fed 429,600 mg; answers are emitted, destroyed"
 unfoldable pub table : List Example
 table =
     -- "open, flame: 214,800, 214,800."
@@ -117,7 +118,7 @@ table =
     ∷ line tallMeasured (lit 1000 (gas 100000 0 200001 699999) 100) (Refused Oxygen)
     ∷ []
 
--- each line's site is not refused, and its minute, in order and with maintenance in time, answers what the line says, for any positive masses
+-- R67: each line's site is not refused, and its minute, in order and with maintenance in time, answers what the line says, for any positive masses
 abbrev pub TableHolds : Type 0
 TableHolds =
     (map (λ x. firstOf (siteLines (x .site))) table ≡ map (λ x. Fine) table)

@@ -1,4 +1,4 @@
-// The examples of document 01 that are marked to be proved, in one table.
+// The worked examples of R67 in docs/RULES.md, in one table.
 ghost use mathlib.Core.Path.{_≡_};
 ghost use Rattle.worked.specs.Table.{flare, gas, reading, answers, line, table};
 use minute::Gas;
@@ -95,7 +95,7 @@ fn line(site: Site, minute: Minute, answer: Judged) -> Example
     }
 }
 
-// The document's lines, in its order.
+// The lines of R67, in its order.
 pub fn examples() -> [Example; 12]
     ensures { λ r. ⌜ r ≡ table ⌝ }
 {
