@@ -13,12 +13,13 @@ pub record FractionsOfSchool : Type 0 where
   pub not-above : (a b c d : ℕ) → 0 < b → 0 < d → (whole a ⊘ whole b ≼ whole c ⊘ whole d) ↔ (a * d ≤ c * b)
   pub sum : (a b c d : ℕ) → 0 < b → 0 < d → whole a ⊘ whole b ⊕ whole c ⊘ whole d ≡ whole (a * d + c * b) ⊘ whole (b * d)
   pub product : (a b c d : ℕ) → 0 < b → 0 < d → whole a ⊘ whole b ⊗ (whole c ⊘ whole d) ≡ whole (a * c) ⊘ whole (b * d)
-  -- R29: - undoes +, and / undoes × by what is above 0
-  pub difference : (x y : Frac) → x ⊖ y ⊕ y ≡ x
-  pub quotient : (x y : Frac) → whole 0 ≺ y → x ⊘ y ⊗ y ≡ x
+  -- R29: - undoes +, and / undoes × by what is above 0; adding the same to both keeps the order
+  pub difference : (x y : Frac) → x ⊕ y ⊖ y ≡ x
+  pub quotient : (x y : Frac) → whole 0 ≺ y → x ⊗ y ⊘ y ≡ x
+  pub order : (x y z : Frac) → (x ≼ y) ↔ (x ⊕ z ≼ y ⊕ z)
   -- R43: rounding up is not below and less than 1 above, rounding down not above and less than 1 below
-  pub rounded-up : (x : Frac) → whole 0 ≼ x → (x ≼ whole (roundUp x)) × (whole (roundUp x) ≺ x ⊕ whole 1)
-  pub rounded-down : (x : Frac) → whole 0 ≼ x → (whole (roundDown x) ≼ x) × (x ≺ whole (roundDown x) ⊕ whole 1)
+  pub rounded-up : (x : Frac) → (x ≼ whole (roundUp x)) × (whole 0 ≼ x → whole (roundUp x) ≺ x ⊕ whole 1)
+  pub rounded-down : (x : Frac) → (whole 0 ≼ x → whole (roundDown x) ≼ x) × (x ≺ whole (roundDown x) ⊕ whole 1)
 
 -- R7: a year in bytes 0 to 1 and a method in byte 2
 abbrev pub twoFields : Layout (ℕ × ℕ)

@@ -3,7 +3,7 @@ ghost use Prim.Native.Nat.{_<_};
 use tool06::Figures;
 
 // A line's text is that of `lines`. Answers whether it could be printed.
-fn print_rule(counts: [u32; 10], rule: u8, words: &[u8]) -> bool
+fn print_rule(counts: [u32; Figures::RULES], rule: u8, words: &[u8]) -> bool
     requires { ⌜ rule < 10 ⌝ }
 {
     let mut line = [0u8; 163];
@@ -12,7 +12,7 @@ fn print_rule(counts: [u32; 10], rule: u8, words: &[u8]) -> bool
 }
 
 // The rules that come before the method.
-fn print_operation(counts: [u32; 10]) -> bool {
+fn print_operation(counts: [u32; Figures::RULES]) -> bool {
     print_rule(counts, Figures::NO_GAS, b"no gas")
         && print_rule(counts, Figures::NO_FLAME, b"no flame")
         && print_rule(counts, Figures::OPEN, b"open flare")
@@ -26,7 +26,7 @@ fn print_operation(counts: [u32; 10]) -> bool {
 }
 
 // Answers whether all could be printed; nothing follows what could not.
-pub(crate) fn print_rules(counts: [u32; 10]) -> bool {
+pub(crate) fn print_rules(counts: [u32; Figures::RULES]) -> bool {
     print_operation(counts)
         && print_rule(counts, Figures::DEFAULT, b"default method")
         && print_rule(counts, Figures::OVERDUE, b"maintenance overdue")

@@ -83,9 +83,12 @@ fn lost_ng(fed: u64, tenths: u64, x: u64, d: u64) -> u64
     requires { ⌜ (fed ≤ 71600000000000) × (tenths ≤ 10) × (x ≤ 17900000000000000000) × (0 < d) × (d ≤ 420000) ⌝ }
     ensures { λ r. ⌜ r ≡ lost fed tenths x d ⌝ }
 {
-    let rest = ceil_div(d * (tenths * (fed % 10)), 10);
+    let rest = ceil_div(
+        d * (tenths * (fed % Figures::ALL_TENTHS)),
+        Figures::ALL_TENTHS,
+    );
     let up = ceil_div(x + rest, d);
-    smaller(tenths * (fed / 10) + up, fed)
+    smaller(tenths * (fed / Figures::ALL_TENTHS) + up, fed)
 }
 
 pub(crate) fn emitted_ng(class: Class, rule: u8, minute: Minute, fed: u64) -> u64

@@ -1,11 +1,13 @@
 -- Every answer is decided by its table, whatever the answer's type.
-use Prim.Native.Nat.{ℕ, zero, suc, _*_, _/_, _%_, _<_}
+use Prim.Native.Nat.{ℕ, zero, suc, _+_, _*_, _/_, _%_, _<_}
 use mathlib.Core.Path.{_≡_, refl}
 use mathlib.Core.Bool.{Bool, true, false, not, cond}
 use mathlib.Core.List.{List, [], _∷_, _++_}
 use mathlib.Core.Option.{some, none}
 use lib.Dec.{eqb, leb}
-use lib.ListN.{length, take, drop}
+use lib.ListN.{length, take, drop, length-append}
+use lib.Seq.{take-append-seam, drop-append-seam}
+use borrow.Author.Tests.{le-leb, lt-leb}
 use native.Mathlib.Omega.{arith}
 use Rattle.exact.specs.Rounding.{ceilDiv}
 use Rattle.refusals.specs.Refusals.{numberOf}
@@ -14,7 +16,7 @@ use Rattle.refusals.specs.declared.refusal.Refusal.{Refusal}
 use Rattle.refusals.specs.declared.refusal.Refusal.the-variants.{Length, Version, Method, Year, Gwp, Size, Spec, Open, Schedule, List as LIST, Full, Flags, Order, Flow, Composition, Methane, Temperature, Exhaust, Oxygen, Incomplete, Day, Buffer}
 use Rattle.refusals.specs.declared.verdict.Verdict.{Verdict}
 use Rattle.refusals.specs.declared.verdict.Verdict.the-variants.{Fine, Refuse}
-use Rattle.records.specs.House.{headLines, bufferLines, answered}
+use Rattle.records.specs.House.{headLines, bufferLines, answered, written}
 use Rattle.site.specs.Record.{siteOf, siteBytes, readSite, writeSite}
 use Rattle.site.specs.Rules.{siteLines}
 use Rattle.site.specs.declared.SiteRead.the-variants.{Fields as SiteFields, Refused as SiteRefused}
@@ -26,16 +28,17 @@ use Rattle.tool06.specs.declared.class.Class.the-variants.{Open as Open', Low, 
 use Rattle.tool06.specs.Tool.{Masses}
 use Rattle.tool06.specs.declared.figures.Judged.{Judged}
 use Rattle.tool06.specs.declared.figures.Judged.the-variants.{Accepted, Refused}
-use Rattle.account.specs.Adding.{isFull, entry, addLines, answer, addTo}
-use Rattle.account.specs.Closing.{co2e, closing}
-use Rattle.account.specs.Opening.{openLines, opened}
+use Rattle.account.specs.Adding.{isFull, entry, addLines, answer, afterAnswer, addTo}
+use Rattle.account.specs.Closing.{co2e, closing, inTonnes, chart}
+use Rattle.account.specs.Opening.{openLines, fresh, opened}
 use Rattle.account.specs.declared.Account.{Account}
 use Rattle.account.specs.declared.close.Closed.the-variants.{Tonnes, Refused as NotClosed}
 use Rattle.run.specs.Check.{stopOr, firstRefused, wholeOr, checked}
+use Rattle.run.specs.Part.{dayPart}
 use Rattle.run.specs.declared.check.Checked.{Checked}
-use Rattle.host.specs.Single.{singleLines, single, singleFigures, returned, answerAfter}
+use Rattle.host.specs.Single.{singleLines, single, singleFigures, returned, answerBytes, answerAfter}
 use Rattle.promises.specs.Numbers.{Said, given, refused, saidOfSite, saidOfMinute, saidOfJudged, saidOfClosed, saidOfVerdict, saidOfChecked, saidOfClass, decides}
-use Rattle.promises.specs.Calls.{ReadingASite, ReadingAMinute, WritingASite, WritingAMinute, Opening, Adding, Closing, ASingleMinute, Classing, orLater, firstSaid, CheckingARun, NumbersOfCalls, BuffersStay}
+use Rattle.promises.specs.Calls.{ReadingASite, ReadingAMinute, WritingASite, WritingAMinute, OpeningAnAccount, AddingAMinute, ClosingAYear, Charting, TakingADay, ASingleMinute, Classing, orLater, firstSaid, CheckingARun, NumbersOfCalls, RefusedChangesNothing}
 
 -- an answer of any type whose cases are values and a refusal
 by-table :
@@ -60,23 +63,29 @@ reading-a-minute : ReadingAMinute
 unfolding readMinute headLines minuteLines
 reading-a-minute b = record { in-order = refl; decided = by-table MinuteFields MinuteRefused saidOfMinute (minuteOf b) refl (λ r. refl) (headLines 54 1 b ++ aloneLines (minuteOf b)) }
 
+-- a lent buffer holds the values where nothing is refused
+by-written : (own image : List ℕ) (t : List Line) → saidOfVerdict (written own image (firstOf t)) (firstOf t) ≡ decides t image
+by-written own image [] = refl
+by-written own image (when true r ∷ t) = refl
+by-written own image (when false r ∷ t) = by-written own image t
+
 writing-a-site : WritingASite
 unfolding writeSite siteLines
-writing-a-site s out = record { in-order = refl; decided = by-verdict (siteBytes s) (bufferLines 30 out ++ siteLines s) }
+writing-a-site s out = record { in-order = refl; decided = by-written out (siteBytes s) (bufferLines 30 out ++ siteLines s) }
 
 writing-a-minute : WritingAMinute
 unfolding writeMinute minuteLines
-writing-a-minute n out = record { in-order = refl; decided = by-verdict (minuteBytes n) (bufferLines 54 out ++ aloneLines n) }
+writing-a-minute n out = record { in-order = refl; decided = by-written out (minuteBytes n) (bufferLines 54 out ++ aloneLines n) }
 
-opening : Opening
+opening-an-account : OpeningAnAccount
 unfolding opened openLines siteLines
-opening s days = record { in-order = refl; decided = by-verdict (opened s days .account) (openLines s days) }
+opening-an-account s days = record { in-order = refl; decided = by-verdict (fresh s days) (openLines s days) }
 
-adding : Adding
+adding-a-minute : AddingAMinute
 unfolding addTo answer addLines headLines minuteLines
-adding m a b = record { in-order = refl; decided = by-table Accepted Refused saidOfJudged (figuresOf m (entry a b)) refl (λ r. refl) (addLines a b) }
+adding-a-minute m a b = record { in-order = refl; decided = by-table Accepted Refused saidOfJudged (figuresOf m (entry a b)) refl (λ r. refl) (addLines a b) }
 
-closing-a-year : Closing
+closing-a-year : ClosingAYear
 unfolding closing
 closing-a-year a = record { in-order = refl; decided = by-table Tonnes NotClosed saidOfClosed (ceilDiv (co2e a) 1000000000) refl (λ r. refl) (when (not (isFull a)) Incomplete ∷ []) }
 
@@ -86,9 +95,11 @@ same-number v Fine = refl
 same-number v (Refuse r) = refl
 
 a-single-minute : ASingleMinute
-unfolding single singleLines headLines siteLines minuteLines
-a-single-minute m site minute days answer =
-    (record { in-order = refl; decided = by-verdict (singleFigures m site minute days) (singleLines site minute answer) }, same-number (singleFigures m site minute days) (single site minute answer))
+unfolding single singleLines headLines siteLines minuteLines answerAfter answerBytes
+a-single-minute m site minute days answer = (
+  record { in-order = refl; decided = by-written answer (answerBytes (singleFigures m site minute days)) (singleLines site minute answer) },
+  same-number (answerAfter m site minute days answer) (single site minute answer),
+)
 
 -- no refusal has the number 0
 no-zero : (r : Refusal) → 0 < numberOf r
@@ -147,6 +158,21 @@ classing s = by-height (leb (s .height) (2 * s .diameter)) (leb (s .height) (10 
     by-height false true = refl
     by-height false false = refl
 
+charting : Charting
+unfolding chart inTonnes co2e
+charting a = (refl, refl)
+
+taking-a-day : TakingADay
+unfolding dayPart
+taking-a-day = record { there = whole-day; not-there = λ run day short. rw (lt-leb (day * 77760 + 77760) (length run) short) }
+  where
+    whole-day : (before part behind : List ℕ) (day : ℕ) → length before ≡ day * 77760 → length part ≡ 77760 → dayPart (before ++ (part ++ behind)) day ≡ part
+    whole-day before part behind day b p =
+        let long = length-append before (part ++ behind) in
+        let rest = length-append part behind in
+        rw (le-leb (day * 77760 + 77760) (length (before ++ (part ++ behind))) (omega (arith, long, rest)), ← b, drop-append-seam before (part ++ behind), ← p)
+        (take-append-seam part behind)
+
 pub numbers-of-calls : NumbersOfCalls
 numbers-of-calls = record {
   reading-a-site = reading-a-site;
@@ -154,17 +180,33 @@ numbers-of-calls = record {
   writing-a-site = writing-a-site;
   writing-a-minute = writing-a-minute;
   classing = classing;
-  opening = opening;
-  adding = adding;
+  opening-an-account = opening-an-account;
+  adding-a-minute = adding-a-minute;
   closing-a-year = closing-a-year;
+  charting = charting;
   checking-a-run = checking-a-run;
+  taking-a-day = taking-a-day;
   a-single-minute = a-single-minute;
 }
 
-pub buffers-stay : BuffersStay
-unfolding answerAfter
-buffers-stay = record {
-  writing-a-site = λ s out r e. rw e refl;
-  writing-a-minute = λ n out r e. rw e refl;
-  a-single-minute = λ m site minute days answer r e. rw e refl;
+stays : {A : Type 0} (v : A) (own image : List ℕ) (w : Verdict) → 0 < saidOfVerdict v w .number → written own image w ≡ own
+stays v own image Fine h = absurd (omega arith)
+stays v own image (Refuse r) h = refl
+
+stays-returned : (own image : List ℕ) (w : Verdict) → 0 < returned w → written own image w ≡ own
+unfolding returned
+stays-returned own image Fine h = absurd (omega arith)
+stays-returned own image (Refuse r) h = refl
+
+account-stays : (a : Account) (j : Judged) → 0 < saidOfJudged j .number → afterAnswer a j ≡ a
+account-stays a (Accepted f) h = absurd (omega arith)
+account-stays a (Refused r) h = refl
+
+pub refused-changes-nothing : RefusedChangesNothing
+unfolding answerAfter addTo
+refused-changes-nothing = record {
+  adding-a-minute = λ m a b h. account-stays a (answer m a b) h;
+  writing-a-site = λ s out h. stays _ out (siteBytes s) (writeSite s out) h;
+  writing-a-minute = λ n out h. stays _ out (minuteBytes n) (writeMinute n out) h;
+  a-single-minute = λ m site minute days answer h. stays-returned answer (answerBytes (singleFigures m site minute days)) (single site minute answer) h;
 }

@@ -7,7 +7,7 @@ use Rattle.tool06.proofs.Kept.{fed-form, short-form, sign-of-F, K-is-positive, 
 use Rattle.tool06.proofs.Sums.{masses-cancel}
 use Rattle.rules.proofs.Unique.{class-of-one}
 use Rattle.account.proofs.Accepted.{nothing-else}
-use Rattle.account.proofs.Laws.{only-opened, refused-stays}
+use Rattle.account.proofs.Laws.{only-opened}
 use Rattle.account.proofs.Lossless.{lossless}
 use Rattle.account.proofs.Unique.{open-one, add-one, co2e-one, close-one, chart-one, site-one, minutes-one, gas-one, fed-one, emitted-one, destroyed-one, counts-one}
 use Rattle.run.proofs.Unique.{check-run-one, day-part-one}
@@ -22,7 +22,8 @@ use Rattle.lines.proofs.NoneCut.{none-cut}
 use Rattle.report.proofs.Pieces.{in-pieces}
 use Rattle.promises.specs.Outcomes.{OneOutcomeOfCalls}
 use Rattle.promises.specs.Product.{Product}
-use Rattle.promises.proofs.Calls.{numbers-of-calls, buffers-stay}
+use Rattle.promises.proofs.Calls.{numbers-of-calls, refused-changes-nothing}
+use Rattle.promises.proofs.Program.{reports-are-given}
 
 one-outcome-of-calls : OneOutcomeOfCalls
 one-outcome-of-calls = record {
@@ -52,7 +53,7 @@ pub product : Product
 product = record {
   numbers = numbers-of-calls;
   one-outcome = one-outcome-of-calls;
-  refusals = (refused-stays, buffers-stay);
+  refusals = refused-changes-nothing;
   accounts = (every-kept, only-opened);
   histories = (histories, opened-stays);
   nothing-else = nothing-else;
@@ -60,6 +61,7 @@ product = record {
   examples = table-holds;
   chart-points = lossless;
   printed = (none-cut, reads-back, in-pieces);
+  program = reports-are-given;
   demand-three = (demand-three, demand-three-by-seven);
   equation-15 = equation-15;
   short-form = (fed-form, short-form, sign-of-F, K-is-positive);

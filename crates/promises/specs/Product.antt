@@ -5,15 +5,16 @@ use Rattle.site.specs.Promises.{siteKind}
 use Rattle.minute.specs.Promises.{minuteKind}
 use Rattle.tool06.specs.Promises.{FedForm, ShortForm, SignOfF, KPositive, EquationSeven}
 use Rattle.tool06.specs.Bounds.{MassesCancel}
-use Rattle.account.specs.Promises.{OnlyOpened, RefusedStays, NothingElse, Lossless}
+use Rattle.account.specs.Promises.{OnlyOpened, NothingElse, Lossless}
 use Rattle.history.specs.Promises.{EveryKept, Histories, OpenedStays, ByAnyMasses, DemandThree, DemandThreeBySeven}
 use Rattle.history.specs.Year.{Equation15}
 use Rattle.worked.specs.Table.{TableHolds}
 use Rattle.text.specs.Promises.{DecimalsReadBack}
 use Rattle.lines.specs.Promises.{NoneCut}
 use Rattle.report.specs.Promises.{InPieces}
-use Rattle.promises.specs.Calls.{NumbersOfCalls, BuffersStay}
+use Rattle.promises.specs.Calls.{NumbersOfCalls, RefusedChangesNothing}
 use Rattle.promises.specs.Outcomes.{OneOutcomeOfCalls}
+use Rattle.promises.specs.Program.{ReportsAreGiven}
 
 -- R83 to R89: every promise, of which this is the one page
 pub record Product : Type 1 where
@@ -22,7 +23,7 @@ pub record Product : Type 1 where
   -- R88: one outcome of each call, for every input
   pub one-outcome : OneOutcomeOfCalls
   -- R58, R83: a refused call changes neither the account nor a lent buffer
-  pub refusals : RefusedStays × BuffersStay
+  pub refusals : RefusedChangesNothing
   -- R54, R89: the calls take every account that they gave, and none beside a refused opening
   pub accounts : EveryKept × OnlyOpened
   -- R84: demand 2. The minutes accepted are the first of the year, judged at the account's site, and it holds exactly their sums and counts
@@ -37,6 +38,8 @@ pub record Product : Type 1 where
   pub chart-points : Lossless
   -- R74 to R76: no printed line is cut, its numbers read back, and records may come in pieces
   pub printed : NoneCut × DecimalsReadBack × InPieces
+  -- R59, R68: the account that the program ends with is one that the calls give, so that all here holds of it
+  pub program : ReportsAreGiven
   -- R86: demand 3. The sums beside the tool's equations, with any positive molecular mass for each minute, and with that of each minute's own gas
   pub demand-three : DemandThree × DemandThreeBySeven
   -- R87: CO2 equivalent and the tonnes beside equation (15)

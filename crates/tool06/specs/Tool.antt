@@ -1,6 +1,6 @@
 -- R3, R29 to R39: the tool's Step 1 and Step 2, Option B.2: equations (2) to (14), one definition each, under the tool's names.
 -- R2, R29: masses are in kg, volumes in m3 on a dry basis at reference conditions, and all numbers are exact fractions.
--- The tool's equations in the page's order. A definition stands after those that it uses, so that they are met from (14) up.
+-- The tool's equations in the page's order. A definition stands after those that it uses, so that (7) and (14) come first and (2) last.
 --   (1)  outside: Option B.1              (9)  Q-O2-EG
 --   (2)  η-calc                           (10) Q-N2-EG
 --   (3)  F-CH4-EG                         (11) Q-CO2-EG
@@ -8,7 +8,8 @@
 --   (5)  M-RG                             (13) F-O2-RG
 --   (6)  ρ-RG                             (14) MF, and MF-C, MF-H, MF-O, MF-N
 --   (7)  MM-RG-of, by-equation-7          (15) PE-flare, in Year
---   (8)  Q-EG                             Step 1: F-CH4-RG
+--   (8)  Q-EG                             (16) to (18) outside: fossil gas, auxiliary fuel
+--   Step 1: F-CH4-RG
 use Prim.Native.Nat.{ℕ, _<_}
 use Rattle.exact.specs.Fractions.{Frac, _⊕_, _⊖_, _⊗_, _⊘_, whole, _≺_}
 use Rattle.minute.specs.declared.gas.Gas.{Gas}
@@ -92,15 +93,15 @@ unfoldable pub Σ-v : Gas → Each Frac → Frac
 
 -- R34: the mass of an element's atoms in a molecule of each component
 abbrev pub AM×NA : Frac → Each ℕ → Each Frac
-AM×NA AM n = record {
-  CH4 = AM ⊗ whole (n .CH4);
-  CO = AM ⊗ whole (n .CO);
-  CO2 = AM ⊗ whole (n .CO2);
-  O2 = AM ⊗ whole (n .O2);
-  H2 = AM ⊗ whole (n .H2);
-  H2S = AM ⊗ whole (n .H2S);
-  NH3 = AM ⊗ whole (n .NH3);
-  N2 = AM ⊗ whole (n .N2);
+AM×NA AM NA = record {
+  CH4 = AM ⊗ whole (NA .CH4);
+  CO = AM ⊗ whole (NA .CO);
+  CO2 = AM ⊗ whole (NA .CO2);
+  O2 = AM ⊗ whole (NA .O2);
+  H2 = AM ⊗ whole (NA .H2);
+  H2S = AM ⊗ whole (NA .H2S);
+  NH3 = AM ⊗ whole (NA .NH3);
+  N2 = AM ⊗ whole (NA .N2);
 }
 
 -- R2: V_RG, from litres

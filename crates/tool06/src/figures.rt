@@ -39,7 +39,7 @@ impl Figures {
     // How many rules there are.
     pub const RULES: usize = 10;
 
-    // The tenths of the methane fed that a rule takes for lost: at an open flare, by default, and where the flare does not work; and those that a low flare loses beside the last two.
+    // The tenths of the methane fed that a rule takes for lost: at an open flare, by default, for a low flare beside the default or what is measured, and where the flare does not work.
     pub const OPEN_TENTHS: u64 = 5;
 
     pub const DEFAULT_TENTHS: u64 = 1;
