@@ -13,7 +13,7 @@ use Rattle.account.specs.Adding.{entry, answer, addTo}
 use Rattle.account.specs.Opening.{opened}
 use Rattle.account.specs.declared.Account.{Account}
 
--- R59: the calls that take an account, with the bytes lent to them
+-- R59: the calls that take an account, with the bytes lent to them; reading one of its numbers gives no account and needs no place here
 pub data Call : Type 0 where
   add check-run : List ℕ → Call
   close chart co2e : Call
