@@ -11,7 +11,9 @@ use Rattle.exact.specs.RoundingLaws.{ceil-le}
 use Rattle.site.specs.declared.Site.{Site}
 use Rattle.minute.specs.Rules.{hasGas}
 use Rattle.minute.specs.declared.Minute.{Minute}
-use Rattle.tool06.specs.Bounds.{Entry, IsAccepted, figuresOf, oneIf, gasOf}
+use Rattle.sums.specs.Sums.{oneIf}
+use Rattle.sums.specs.Within.{most, Within}
+use Rattle.tool06.specs.Bounds.{Entry, IsAccepted, figuresOf, worthOf}
 use Rattle.tool06.specs.Figures.{figures}
 use Rattle.tool06.specs.scaffold.Nanograms.{figuresNg}
 use Rattle.tool06.specs.Rules.{RuleLine, rule, measured, ruleLines, theRule}
@@ -42,7 +44,7 @@ without-gas s n inTime none = rw none refl
 
 module _ (m : Masses) (e : Entry) where
   -- a minute has gas where its rule is not 0
-  pub gas-by-rule : oneIf (not (eqb (figuresOf m e .rule) 0)) ≡ gasOf e
+  pub gas-by-rule : oneIf (not (eqb (figuresOf m e .rule) 0)) ≡ worthOf m e .gas
   unfolding figures
   gas-by-rule = by-gas (hasGas (e .minute)) refl
     where
@@ -57,16 +59,22 @@ module _ (m : Masses) (e : Entry) where
   rule-below = below-ten (e .site) (e .minute) (e .inTime)
 
 -- 71.6 kg at most in a minute with gas
-pub fed-most : (m : Masses) → Positive m → (e : Entry) → IsAccepted e → figuresOf m e .fed ≤ gasOf e * 71600000
+fed-most : (m : Masses) → Positive m → (e : Entry) → IsAccepted e → figuresOf m e .fed ≤ worthOf m e .gas * most
 unfolding figuresNg
 fed-most m pos e fine = by-gas (hasGas (e .minute)) refl
   where
-    within : ceilDiv (F-RG-ng (e .minute)) 1000000 ≤ 71600000
-    within = ceil-le (F-RG-ng (e .minute)) 1000000 71600000 (omega arith) .1 (let h = fed-within (facts false (e .site) (e .minute) (fine .0) (fine .1)) in omega arith)
+    rounded : ceilDiv (F-RG-ng (e .minute)) 1000000 ≤ most
+    rounded = ceil-le (F-RG-ng (e .minute)) 1000000 most (omega arith) .1 (let h = fed-within (facts false (e .site) (e .minute) (fine .0) (fine .1)) in omega arith)
 
-    most : figuresNg (e .site) (e .minute) (e .inTime) .fed ≤ 71600000
-    most = within
+    in-ng : figuresNg (e .site) (e .minute) (e .inTime) .fed ≤ most
+    in-ng = rounded
 
-    by-gas : (gas : Bool) → hasGas (e .minute) ≡ gas → figuresOf m e .fed ≤ oneIf gas * 71600000
-    by-gas true gas = rw (← same-figures m pos (facts false (e .site) (e .minute) (fine .0) (fine .1)) (e .inTime)) most
+    by-gas : (gas : Bool) → hasGas (e .minute) ≡ gas → figuresOf m e .fed ≤ oneIf gas * most
+    by-gas true gas = rw (← same-figures m pos (facts false (e .site) (e .minute) (fine .0) (fine .1)) (e .inTime)) in-ng
     by-gas false none = let z = one-minute m pos e fine .no-gas (rw none refl) .0 in omega arith
+
+pub worth-within : (m : Masses) → Positive m → (e : Entry) → IsAccepted e → Within (worthOf m e)
+worth-within m pos e fine =
+    let fed = fed-most m pos e fine in
+    let within = one-minute m pos e fine .together-within in
+    record { fed-within = fed; emitted-within = omega arith; destroyed-within = omega arith }

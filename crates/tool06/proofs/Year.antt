@@ -5,7 +5,8 @@ use mathlib.Core.Quot.{Quot·sound}
 use mathlib.Core.List.{List, [], _∷_}
 use Rattle.exact.specs.Fractions.{Frac, _⊖_, _⊗_, _⊘_, inv, whole}
 use Rattle.exact.proofs.Fractions.{⊗-comm, ⊗-zero, ⊕-⊗, mul-ac}
-use Rattle.tool06.specs.Bounds.{Entry, emittedOf, exactTotal}
+use Rattle.sums.specs.Bounds.{exactTotal}
+use Rattle.tool06.specs.Bounds.{Entry, emittedOf}
 use Rattle.tool06.specs.Figures.{mg, exactEmitted}
 use Rattle.tool06.specs.Tool.{Masses, F-CH4-RG}
 use Rattle.tool06.specs.Year.{emittedKg, PE-flare}

@@ -2,7 +2,8 @@
 use Prim.Native.Nat.{ℕ}
 use mathlib.Core.List.{List}
 use Rattle.exact.specs.Fractions.{Frac, _⊖_, _⊗_, _⊘_, whole}
-use Rattle.tool06.specs.Bounds.{Entry, exactTotal}
+use Rattle.sums.specs.Bounds.{exactTotal}
+use Rattle.tool06.specs.Bounds.{Entry}
 use Rattle.tool06.specs.Figures.{η}
 use Rattle.tool06.specs.Tool.{Masses, F-CH4-RG}
 
