@@ -9,7 +9,7 @@ use borrow.Author.Tests.{eqb-true, eqb-false}
 use lib.Dec.{eqb}
 use lib.ListN.{length, getD, set, length-set}
 use lib.Seq.{ext-getD, getD-set-same, getD-set-other}
-use Rattle.tool06.specs.Bounds.{oneIf}
+use Rattle.sums.specs.Sums.{oneIf}
 use Rattle.account.specs.Adding.{oneMore}
 
 -- n counts from place k on, with one more where the place is the rule's

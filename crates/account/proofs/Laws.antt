@@ -1,5 +1,5 @@
 -- What the calls keep of every account.
-use Prim.Native.Nat.{ℕ, zero, suc, _+_, _<_}
+use Prim.Native.Nat.{ℕ, zero, suc, _+_, _≤_, _<_}
 use mathlib.Core.Path.{_≡_, refl, sym, ap, _∙_}
 use mathlib.Core.Bool.{Bool, true, false, not}
 use mathlib.Core.List.{List, _∷_}
@@ -13,12 +13,14 @@ use Rattle.refusals.specs.Tables.{firstOf}
 use Rattle.refusals.specs.declared.verdict.Verdict.the-variants.{Fine}
 use Rattle.site.specs.Rules.{yearMinutes}
 use Rattle.site.specs.declared.Site.{Site}
-use Rattle.tool06.specs.Bounds.{oneIf}
+use Rattle.sums.specs.Sums.{none, _⊞_, oneIf}
+use Rattle.sums.specs.scaffold.Fits.{Fits}
+use Rattle.sums.proofs.Laws.{none-within, plus-within}
 use Rattle.tool06.specs.Tool.{Masses, Positive}
 use Rattle.tool06.specs.declared.figures.Figures.{Figures}
 use Rattle.tool06.specs.declared.figures.Judged.{Judged}
 use Rattle.tool06.specs.declared.figures.Judged.the-variants.{Accepted, Refused}
-use Rattle.account.specs.Adding.{oneMore, withMinute, afterAnswer, answer, addTo}
+use Rattle.account.specs.Adding.{worth, oneMore, withMinute, afterAnswer, answer, addTo}
 use Rattle.account.specs.Kept.{sum, Kept}
 use Rattle.account.specs.scaffold.Small.{Small}
 use Rattle.account.specs.Opening.{openLines, fresh, opened}
@@ -27,6 +29,7 @@ use Rattle.account.specs.declared.Account.{Account}
 use Rattle.account.specs.declared.open.Opened.{Opened}
 use Rattle.account.proofs.Accepted.{accepted}
 use Rattle.account.proofs.Opens.{opens-kept, list-is-kept, as-given, site-examined}
+use Rattle.account.proofs.Within.{year-within, one-if-within}
 
 -- one more under a rule: the count of that rule is one more, and the others are as they were
 pub count-more : (counts : List ℕ) (rule k : ℕ) → rule < length counts → getD (oneMore counts rule) k 0 ≡ getD counts k 0 + oneIf (eqb rule k)
@@ -46,21 +49,44 @@ one-or-other : (b : Bool) → oneIf (not b) + oneIf b ≡ 1
 one-or-other true = refl
 one-or-other false = refl
 
-pub kept-with : {a : Account} {f : Figures} → Kept a → Small f → a .minutes < yearMinutes (a .site .year) → Kept (withMinute a f)
-unfolding withMinute
-kept-with {a} {f} kept small room =
-    let there : f .rule < length (a .counts) = omega (arith, kept .ten-counts, small .rule-below) in
-    record {
-      opens = kept .opens;
-      minutes-within = omega arith;
-      list-kept = kept .list-kept;
-      ten-counts = length-set (a .counts) (f .rule) _ ∙ kept .ten-counts;
-      counts-sum = omega (arith, kept .counts-sum, sum-set (a .counts) (f .rule) (getD (a .counts) (f .rule) 0 + 1) there);
-      gas-counted = omega (arith, kept .gas-counted, count-more (a .counts) (f .rule) 0 there, one-or-other (eqb (f .rule) 0));
-      fed-within = omega (arith, kept .fed-within, small .fed-small);
-      emitted-within = omega (arith, kept .emitted-within, small .emitted-small);
-      destroyed-within = omega (arith, kept .destroyed-within, small .destroyed-small);
-    }
+module _ (f : Figures) where
+  pub minutes-one : worth f .minutes ≡ 1
+  unfolding worth
+  minutes-one = refl
+
+  gas-is : worth f .gas ≡ oneIf (not (eqb (f .rule) 0))
+  unfolding worth
+  gas-is = refl
+
+  gas-one : worth f .gas ≤ 1
+  unfolding worth
+  gas-one = one-if-within (not (eqb (f .rule) 0))
+
+module _ {a : Account} {f : Figures} (kept : Kept a) (small : Small f) (room : a .sums .minutes < yearMinutes (a .site .year)) where
+  -- one minute more fits into the sums
+  pub sums-fit : Fits (a .sums ⊞ worth f)
+  unfolding _⊞_
+  sums-fit =
+      let y = year-within (a .site .year) .1 in
+      record {
+        minutes-fit = omega (arith, minutes-one f);
+        gas-fits = omega (arith, kept .gas-counted, gas-one f);
+        within = plus-within (kept .sums-within) (small .worth-within);
+      }
+
+  pub kept-with : Kept (withMinute a f)
+  unfolding withMinute _⊞_
+  kept-with =
+      let there : f .rule < length (a .counts) = omega (arith, kept .ten-counts, small .rule-below) in
+      record {
+        opens = kept .opens;
+        minutes-within = omega (arith, minutes-one f);
+        list-kept = kept .list-kept;
+        ten-counts = length-set (a .counts) (f .rule) _ ∙ kept .ten-counts;
+        counts-sum = omega (arith, minutes-one f, kept .counts-sum, sum-set (a .counts) (f .rule) (getD (a .counts) (f .rule) 0 + 1) there);
+        gas-counted = omega (arith, minutes-one f, gas-is f, kept .gas-counted, count-more (a .counts) (f .rule) 0 there, one-or-other (eqb (f .rule) 0));
+        sums-within = plus-within (kept .sums-within) (small .worth-within);
+      }
 
 -- adding keeps what it requires, whatever the bytes
 pub kept-add : (m : Masses) → Positive m → {a : Account} → Kept a → (bytes : List ℕ) → Kept (addTo m a bytes .account)
@@ -72,12 +98,16 @@ kept-add m pos {a} kept bytes = by-answer (answer m a bytes) refl
     by-answer (Refused r) e = kept
 
 -- an accepted record is one minute more
-pub minutes-on : (m : Masses) (a : Account) (bytes : List ℕ) (f : Figures) → answer m a bytes ≡ Accepted f → addTo m a bytes .account .minutes ≡ a .minutes + 1
-unfolding addTo withMinute
-minutes-on m a bytes f e = rw e refl
+pub minutes-more : (a : Account) (f : Figures) → withMinute a f .sums .minutes ≡ a .sums .minutes + 1
+unfolding withMinute _⊞_
+minutes-more a f = ap (λ (n : ℕ). a .sums .minutes + n) (minutes-one f)
+
+pub minutes-on : (m : Masses) (a : Account) (bytes : List ℕ) (f : Figures) → answer m a bytes ≡ Accepted f → addTo m a bytes .account .sums .minutes ≡ a .sums .minutes + 1
+unfolding addTo
+minutes-on m a bytes f e = rw e (minutes-more a f)
 
 pub fresh-kept : (s : Site) (days : List ℤ) → firstOf (openLines s days) ≡ Fine → Kept (fresh s days)
-unfolding fresh
+unfolding fresh none
 fresh-kept s days fine = record {
   opens = opens-kept s days fine;
   minutes-within = omega arith;
@@ -85,9 +115,7 @@ fresh-kept s days fine = record {
   ten-counts = refl;
   counts-sum = refl;
   gas-counted = refl;
-  fed-within = omega arith;
-  emitted-within = omega arith;
-  destroyed-within = omega arith;
+  sums-within = none-within;
 }
 
 pub only-opened : OnlyOpened

@@ -3,5 +3,6 @@ pub mod Counting
 pub mod Laws
 pub mod Lossless
 pub mod Opens
+pub mod Turn
 pub mod Unique
 pub mod Within

@@ -14,6 +14,6 @@ exactly mg h = round-whole binary64 false mg h
 
 pub lossless : Lossless
 lossless a k =
-    let f = sum-within k (a .fed) (k .fed-within) in
+    let f = sum-within k (a .sums .fed) (k .sums-within .fed-within) in
     let e = co2e-within k in
-    (exactly (a .fed) (omega arith), exactly (co2e a) (omega arith))
+    (exactly (a .sums .fed) (omega arith), exactly (co2e a) (omega arith))

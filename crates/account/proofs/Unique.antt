@@ -9,11 +9,8 @@ use Rattle.account.proofs.Account.close.Reads as close
 use Rattle.account.proofs.Account.co2e.Reads as co2e
 use Rattle.account.proofs.Account.open.Reads as opening
 use Rattle.account.proofs.Account.site.Reads as site
+use Rattle.account.proofs.Account.sums.Reads as sums
 use Rattle.account.proofs.Account.minutes.Reads as minutes
-use Rattle.account.proofs.Account.gas.Reads as gas
-use Rattle.account.proofs.Account.fed.Reads as fed
-use Rattle.account.proofs.Account.emitted.Reads as emitted
-use Rattle.account.proofs.Account.destroyed.Reads as destroyed
 use Rattle.account.proofs.Account.counts.Reads as counts
 
 pub open-one : (κs : _) (a : _) → OneResult (opening.Learnt κs a)
@@ -35,20 +32,11 @@ chart-one κs a x y e f p q = p ∙ sym q
 pub site-one : (κs : _) (a : _) → OneResult (site.Learnt κs a)
 site-one κs a x y e f p q = p ∙ sym q
 
+pub sums-one : (κs : _) (a : _) → OneResult (sums.Learnt κs a)
+sums-one κs a x y e f p q = p ∙ sym q
+
 pub minutes-one : (κs : _) (a : _) → OneResult (minutes.Learnt κs a)
 minutes-one κs a x y e f p q = p ∙ sym q
-
-pub gas-one : (κs : _) (a : _) → OneResult (gas.Learnt κs a)
-gas-one κs a x y e f p q = p ∙ sym q
-
-pub fed-one : (κs : _) (a : _) → OneResult (fed.Learnt κs a)
-fed-one κs a x y e f p q = p ∙ sym q
-
-pub emitted-one : (κs : _) (a : _) → OneResult (emitted.Learnt κs a)
-emitted-one κs a x y e f p q = p ∙ sym q
-
-pub destroyed-one : (κs : _) (a : _) → OneResult (destroyed.Learnt κs a)
-destroyed-one κs a x y e f p q = p ∙ sym q
 
 pub counts-one : (κs : _) (a : _) → OneResult (counts.Learnt κs a)
 counts-one κs a x y e f p q = p ∙ sym q

@@ -11,7 +11,9 @@ use Rattle.site.specs.Rules.{yearMinutes}
 use Rattle.minute.specs.Record.{minuteOf}
 use Rattle.minute.specs.declared.Minute.{Minute}
 use Rattle.maintenance.specs.Days.{inTime, listedDays}
-use Rattle.tool06.specs.Bounds.{Entry, figuresOf, oneIf}
+use Rattle.sums.specs.Sums.{_⊞_, oneIf}
+use Rattle.sums.specs.declared.Sums.{Sums}
+use Rattle.tool06.specs.Bounds.{Entry, figuresOf}
 use Rattle.tool06.specs.Judged.{judgedLines}
 use Rattle.tool06.specs.Tool.{Masses}
 use Rattle.tool06.specs.declared.figures.Figures.{Figures}
@@ -22,11 +24,11 @@ use Rattle.account.specs.declared.add.Added.{Added}
 
 -- R48, R51: 11, "the year's last minute is already in"
 unfoldable pub isFull : Account → Bool
-isFull a = leb (yearMinutes (a .site .year)) (a .minutes)
+isFull a = leb (yearMinutes (a .site .year)) (a .sums .minutes)
 
 -- R51: 13, "not the next minute"
 abbrev pub notNext : Account → Minute → Bool
-notNext a n = not (eqb (n .number) (a .minutes))
+notNext a n = not (eqb (n .number) (a .sums .minutes))
 
 -- R14, R16: "in time on day d", d being the day of this minute of the year
 unfoldable pub inTimeAt : Account → ℕ → Bool
@@ -52,20 +54,20 @@ answer m a b = answered Accepted Refused (figuresOf m (entry a b)) (firstOf (add
 abbrev pub withGas : ℕ → ℕ
 withGas rule = oneIf (not (eqb rule 0))
 
+-- R46: what an accepted minute adds: "1 to the minutes, 1 to the minutes with gas unless its rule is 0 .. and its three figures"
+unfoldable pub worth : Figures → Sums
+worth f = record { minutes = 1; gas = withGas (f .rule); fed = f .fed; emitted = f .emitted; destroyed = f .destroyed }
+
 -- R46: one more at place k
 abbrev pub oneMore : List ℕ → ℕ → List ℕ
 oneMore counts k = set counts k (getD counts k 0 + 1)
 
--- R46: "the number of minutes accepted, the number with gas, and ten counts, one per rule", and the three sums
+-- R46: the sums with the minute's worth, and one more under its rule
 unfoldable pub withMinute : Account → Figures → Account
 withMinute a f = record {
   site = a .site;
   maintenance = a .maintenance;
-  minutes = a .minutes + 1;
-  gas = a .gas + withGas (f .rule);
-  fed = a .fed + f .fed;
-  emitted = a .emitted + f .emitted;
-  destroyed = a .destroyed + f .destroyed;
+  sums = a .sums ⊞ worth f;
   counts = oneMore (a .counts) (f .rule);
 }
 

@@ -16,7 +16,7 @@ use Rattle.account.specs.declared.close.Point.{Point}
 
 -- R47: "CO2 equivalent, in mg, is GWP times the emitted sum"
 unfoldable pub co2e : Account → ℕ
-co2e a = a .site .gwp * a .emitted
+co2e a = a .site .gwp * a .sums .emitted
 
 -- R48: "Closing gives tonnes CO2 equivalent, rounded up, once every minute is in", else 20
 unfoldable pub closing : Account → Closed
@@ -28,4 +28,4 @@ inTonnes mg = div binary64 (ofInt binary64 (pos mg)) (ofInt binary64 (pos 100000
 
 -- R49: "A chart point holds fed methane and CO2 equivalent in tonnes"
 unfoldable pub chart : Account → Point
-chart a = record { fed = inTonnes (a .fed); co2e = inTonnes (co2e a) }
+chart a = record { fed = inTonnes (a .sums .fed); co2e = inTonnes (co2e a) }

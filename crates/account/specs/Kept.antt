@@ -1,11 +1,12 @@
 -- R89: what every account that the calls can give has: a site and a list that opening does not refuse, room for its sums, and arrays of their length.
-use Prim.Native.Nat.{ℕ, _+_, _*_, _≤_}
+use Prim.Native.Nat.{ℕ, _+_, _≤_}
 use mathlib.Core.Path.{_≡_}
 use mathlib.Core.List.{List, [], _∷_}
 use lib.ListN.{length, getD}
 use Rattle.refusals.specs.Tables.{firstOf}
 use Rattle.refusals.specs.declared.verdict.Verdict.the-variants.{Fine}
 use Rattle.site.specs.Rules.{yearMinutes}
+use Rattle.sums.specs.Within.{Within}
 use Rattle.maintenance.specs.Days.{listedDays, KeptList}
 use Rattle.account.specs.Opening.{openLines}
 use Rattle.account.specs.declared.Account.{Account}
@@ -17,13 +18,11 @@ sum (x ∷ xs) = x + sum xs
 -- R89: what every call that takes an account requires of it
 pub record Kept (a : Account) : Type 0 where
   pub opens : firstOf (openLines (a .site) (listedDays (a .maintenance))) ≡ Fine
-  pub minutes-within : a .minutes ≤ yearMinutes (a .site .year)
+  pub minutes-within : a .sums .minutes ≤ yearMinutes (a .site .year)
   pub list-kept : KeptList (a .maintenance)
   pub ten-counts : length (a .counts) ≡ 10
   -- each minute is counted under one rule, and those under rule 0 have no gas
-  pub counts-sum : sum (a .counts) ≡ a .minutes
-  pub gas-counted : a .gas + getD (a .counts) 0 0 ≡ a .minutes
+  pub counts-sum : sum (a .counts) ≡ a .sums .minutes
+  pub gas-counted : a .sums .gas + getD (a .counts) 0 0 ≡ a .sums .minutes
   -- 71.6 kg at most in a minute with gas
-  pub fed-within : a .fed ≤ a .gas * 71600000
-  pub emitted-within : a .emitted ≤ a .gas * 71600000
-  pub destroyed-within : a .destroyed ≤ a .gas * 71600000
+  pub sums-within : Within (a .sums)

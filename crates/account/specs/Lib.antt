@@ -3,4 +3,5 @@ pub mod Closing
 pub mod Kept
 pub mod Opening
 pub mod Promises
+pub mod Turn
 pub mod scaffold

@@ -7,6 +7,7 @@ use Rattle.refusals.specs.Tables.{Line, when, firstOf}
 use Rattle.refusals.specs.declared.refusal.Refusal.the-variants.{List as LIST}
 use Rattle.site.specs.Rules.{yearMinutes, siteLines}
 use Rattle.site.specs.declared.Site.{Site}
+use Rattle.sums.specs.Sums.{none}
 use Rattle.maintenance.specs.Days.{listWrong, maintenanceOf}
 use Rattle.account.specs.declared.Account.{Account}
 use Rattle.account.specs.declared.open.Opened.{Opened}
@@ -24,11 +25,7 @@ unfoldable pub fresh : Site → List ℤ → Account
 fresh s days = record {
   site = s;
   maintenance = maintenanceOf days;
-  minutes = 0;
-  gas = 0;
-  fed = 0;
-  emitted = 0;
-  destroyed = 0;
+  sums = none;
   counts = replicate 10 0;
 }
 

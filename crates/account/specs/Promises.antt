@@ -44,4 +44,4 @@ ConvertedExactly mg = HasValue (ofInt binary64 (pos mg)) false mg 1
 
 -- R49: "the mg sum converted without loss"
 abbrev pub Lossless : Type 0
-Lossless = (a : Account) → Kept a → ConvertedExactly (a .fed) × ConvertedExactly (co2e a)
+Lossless = (a : Account) → Kept a → ConvertedExactly (a .sums .fed) × ConvertedExactly (co2e a)

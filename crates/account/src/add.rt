@@ -3,17 +3,18 @@ ghost use mathlib.Core.Path.{_≡_};
 ghost use Prim.Native.Nat.{_+_, _≤_, _<_};
 ghost use lib.Dec.{eqb};
 ghost use lib.ListN.{length, getD};
-ghost use Rattle.account.specs.Adding.{isFull, inTimeAt, withGas, oneMore, withMinute, answer, addTo};
+ghost use Rattle.account.specs.Adding.{isFull, inTimeAt, withGas, worth, oneMore, withMinute, answer, addTo};
 ghost use Rattle.account.specs.Kept.{sum, Kept};
 ghost use Rattle.account.specs.scaffold.Small.{Small};
-ghost use Rattle.tool06.specs.Bounds.{oneIf};
 ghost use Rattle.site.specs.Rules.{yearMinutes};
+ghost use Rattle.sums.specs.Sums.{oneIf};
 ghost use Rattle.tool06.specs.Tool.{Masses, Positive};
 use crate::Account;
 use minute::Minute;
 use refusals::Refusal;
 use refusals::Verdict;
 use site::Site;
+use sums::Sums;
 use tool06::Figures;
 use tool06::Judged;
 
@@ -28,6 +29,19 @@ fn with_gas(rule: u8) -> u32
     ensures { λ r. ⌜ r ≡ withGas rule ⌝ }
 {
     if rule == Figures::NO_GAS { 0 } else { 1 }
+}
+
+// What one minute is worth.
+fn worth(figures: Figures) -> Sums
+    ensures { λ r. ⌜ r ≡ worth figures ⌝ }
+{
+    Sums {
+        minutes: 1,
+        gas: with_gas(figures.rule),
+        fed: figures.fed,
+        emitted: figures.emitted,
+        destroyed: figures.destroyed,
+    }
 }
 
 // The count at a place, with one more where it is the rule's.
@@ -67,7 +81,8 @@ impl Account {
         ensures { λ r. ⌜ r ≡ isFull self ⌝ }
     {
         let site = self.site;
-        site.minutes() <= self.minutes
+        let sums = self.sums;
+        site.minutes() <= sums.minutes
     }
 
     // Whether maintenance is in time on a minute's own day.
@@ -94,7 +109,8 @@ impl Account {
             Verdict::Fine => {
                 let minute = minute::fields_in(bytes);
                 let in_time = self.in_time(minute.number);
-                judge::judge(self.site, minute, minute.number != self.minutes, in_time)
+                let sums = self.sums;
+                judge::judge(self.site, minute, minute.number != sums.minutes, in_time)
             }
         }
     }
@@ -103,21 +119,13 @@ impl Account {
     fn with_minute(mut self, figures: Figures) -> Account
         requires { ⌜ Kept self ⌝ }
         requires { ⌜ Small figures ⌝ }
-        requires { ⌜ self .minutes < yearMinutes (self .site .year) ⌝ }
+        requires { ⌜ self .sums .minutes < yearMinutes (self .site .year) ⌝ }
         ensures { λ r. ⌜ r ≡ withMinute self figures ⌝ }
     {
-        let rule = figures.rule;
+        let sums = self.sums;
         let counts = self.counts;
-        let raised = one_more(counts, rule);
-        let gas = with_gas(rule);
-        let fed = figures.fed;
-        let emitted = figures.emitted;
-        let destroyed = figures.destroyed;
-        self.minutes = self.minutes + 1;
-        self.gas = self.gas + gas;
-        self.fed = self.fed + fed;
-        self.emitted = self.emitted + emitted;
-        self.destroyed = self.destroyed + destroyed;
+        let raised = one_more(counts, figures.rule);
+        self.sums = sums.plus(worth(figures));
         self.counts = raised;
         self
     }

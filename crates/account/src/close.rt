@@ -35,7 +35,8 @@ impl Account {
         ensures { λ r. ⌜ r ≡ co2e self ⌝ }
     {
         let site = self.site;
-        site.gwp as u64 * self.emitted
+        let sums = self.sums;
+        site.gwp as u64 * sums.emitted
     }
 
     // CO2 equivalent in tonnes, rounded up, or 20 where minutes are missing.
@@ -55,8 +56,9 @@ impl Account {
         requires { ⌜ Kept self ⌝ }
         ensures { λ r. ⌜ r ≡ chart self ⌝ }
     {
+        let sums = self.sums;
         Point {
-            fed: in_tonnes(self.fed),
+            fed: in_tonnes(sums.fed),
             co2e: in_tonnes(self.co2e()),
         }
     }

@@ -10,17 +10,14 @@ pub use close::Point;
 use maintenance::Maintenance;
 pub use open::Opened;
 use site::Site;
+use sums::Sums;
 use tool06::Figures;
 
-// Minutes accepted so far, of them those with gas, the sums of methane in mg, and the minutes under each rule.
+// The sums over the minutes accepted so far, and the minutes under each rule.
 // No other crate can make one or change one but by the calls: the fields are read by methods.
 pub struct Account {
     site: Site,
     maintenance: Maintenance,
-    minutes: u32,
-    gas: u32,
-    fed: u64,
-    emitted: u64,
-    destroyed: u64,
+    sums: Sums,
     counts: [u32; Figures::RULES],
 }

@@ -6,6 +6,7 @@ use maintenance::Maintenance;
 use refusals::Refusal;
 use refusals::Verdict;
 use site::Site;
+use sums::Sums;
 use tool06::Figures;
 
 // The verdict, and the account beside it: an enum cannot hold the account's arrays.
@@ -29,11 +30,7 @@ impl Account {
         Account {
             site,
             maintenance: Maintenance::of(list),
-            minutes: 0,
-            gas: 0,
-            fed: 0,
-            emitted: 0,
-            destroyed: 0,
+            sums: Sums::none(),
             counts: [0u32; Figures::RULES],
         }
     }

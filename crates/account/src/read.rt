@@ -3,6 +3,7 @@ ghost use mathlib.Core.Path.{_≡_};
 ghost use Rattle.account.specs.Kept.{Kept};
 use crate::Account;
 use site::Site;
+use sums::Sums;
 use tool06::Figures;
 
 impl Account {
@@ -13,39 +14,20 @@ impl Account {
         self.site
     }
 
+    pub fn sums(self) -> Sums
+        requires { ⌜ Kept self ⌝ }
+        ensures { λ r. ⌜ r ≡ self .sums ⌝ }
+    {
+        self.sums
+    }
+
+    // The minute expected next, which is the number of those accepted.
     pub fn minutes(self) -> u32
         requires { ⌜ Kept self ⌝ }
-        ensures { λ r. ⌜ r ≡ self .minutes ⌝ }
+        ensures { λ r. ⌜ r ≡ self .sums .minutes ⌝ }
     {
-        self.minutes
-    }
-
-    pub fn gas(self) -> u32
-        requires { ⌜ Kept self ⌝ }
-        ensures { λ r. ⌜ r ≡ self .gas ⌝ }
-    {
-        self.gas
-    }
-
-    pub fn fed(self) -> u64
-        requires { ⌜ Kept self ⌝ }
-        ensures { λ r. ⌜ r ≡ self .fed ⌝ }
-    {
-        self.fed
-    }
-
-    pub fn emitted(self) -> u64
-        requires { ⌜ Kept self ⌝ }
-        ensures { λ r. ⌜ r ≡ self .emitted ⌝ }
-    {
-        self.emitted
-    }
-
-    pub fn destroyed(self) -> u64
-        requires { ⌜ Kept self ⌝ }
-        ensures { λ r. ⌜ r ≡ self .destroyed ⌝ }
-    {
-        self.destroyed
+        let sums = self.sums;
+        sums.minutes
     }
 
     pub fn counts(self) -> [u32; Figures::RULES]

@@ -26,8 +26,7 @@ histories m pos s days a es reached = (in-places m pos s days a es reached, hold
 
 pub demand-three : DemandThree
 demand-three m pos s days a es reached =
-    let h = holds m pos s days a es reached in
-    rw (h .gas-is, h .fed-is, h .emitted-is, h .destroyed-is)
+    rw (holds m pos s days a es reached .sums-are)
     (bounds-of-any m pos es (all-accepted s days 0 es (in-places m pos s days a es reached)))
 
 -- adding gives the same by any positive masses

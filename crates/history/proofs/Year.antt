@@ -8,15 +8,17 @@ use lib.Dec.{ltb}
 use Rattle.exact.specs.Rounding.{ceilDiv}
 use Rattle.exact.specs.Fractions.{Frac, _⊕_, _⊗_, _⊘_, inv, whole, _≼_, _≺_, roundUp}
 use Rattle.exact.proofs.Bools.{or-false}
-use Rattle.exact.proofs.Fractions.{⊗-comm, ⊗-zero, ⊕-⊗, one-⊗, mul-ac, whole-⊗}
+use Rattle.exact.proofs.Fractions.{⊗-comm, ⊗-zero, ⊕-zero, ⊕-⊗, one-⊗, mul-ac, whole-⊗}
 use Rattle.exact.proofs.Order.{≼-trans, ≺-≼, ≺-≼-trans, ⊕-mono-left, ⊗-mono, ⊗-smono, zero-⊕, inv-pos, inv-positive, whole-≼, whole-pos}
 use Rattle.exact.proofs.Ratios.{ratio-nonneg}
 use Rattle.exact.proofs.RoundedFractions.{up-not-below, up-near, up-ratio}
 use Rattle.refusals.proofs.Tables.{none}
 use Rattle.site.specs.Rules.{siteLines, Examined}
 use Rattle.site.specs.declared.Site.{Site}
-use Rattle.tool06.specs.Bounds.{Bounds, emittedOf, exactTotal}
+use Rattle.sums.specs.Bounds.{Exact, exactSums, Bounds}
+use Rattle.tool06.specs.Bounds.{exactOf}
 use Rattle.tool06.specs.Year.{PE-flare}
+use Rattle.tool06.proofs.Sums.{no-slack}
 use Rattle.tool06.proofs.Year.{PE-mg}
 use Rattle.account.specs.Adding.{isFull}
 use Rattle.account.specs.Closing.{co2e, closing}
@@ -47,8 +49,8 @@ tonnes-are a t e = by-full (isFull a) refl
     by-full true f = let z = rw f at e in cc
     by-full false f = let z = rw f at e in absurd (let y : _≡_ {A = ℕ} 0 1 = cc in omega arith)
 
-module _ (PE E : Frac) (g : ℕ) (a : Account) (gwp-is : a .site .gwp ≡ g) (pos : 0 < g) (same : PE ⊗ whole 1000000000 ≡ E ⊗ whole g) (fed d : ℕ) (D : Frac) (b : Bounds (a .gas) fed (a .emitted) d E D) where
-  co2e-whole : whole (co2e a) ≡ whole (a .emitted) ⊗ whole g
+module _ (PE : Frac) (x : Exact) (g : ℕ) (a : Account) (gwp-is : a .site .gwp ≡ g) (pos : 0 < g) (same : PE ⊗ whole 1000000000 ≡ x .emitted ⊗ whole g) (flat : x .slack ≡ whole 0) (b : Bounds (a .sums) x) where
+  co2e-whole : whole (co2e a) ≡ whole (a .sums .emitted) ⊗ whole g
   unfolding co2e
   co2e-whole = rw (gwp-is, ← whole-⊗, ⊗-comm)
 
@@ -58,33 +60,33 @@ module _ (PE E : Frac) (g : ℕ) (a : Account) (gwp-is : a .site .gwp ≡ g) (po
       let r : (p t i : Frac) → p ⊗ t ⊗ i ≡ t ⊗ i ⊗ p = λ p t i. simp mul-ac in
       r x (whole 1000000000) (inv (whole 1000000000)) ∙ rw (tera, one-⊗)
 
-  PE-is : PE ≡ E ⊗ whole g ⊗ inv (whole 1000000000)
+  PE-is : PE ≡ x .emitted ⊗ whole g ⊗ inv (whole 1000000000)
   PE-is = sym (back-again PE) ∙ ap (λ (z : Frac). z ⊗ inv (whole 1000000000)) same
 
   g-pos : whole 0 ≺ whole g
   g-pos = whole-pos g pos
 
   not-below : PE ⊗ whole 1000000000 ≼ whole (co2e a)
-  not-below = rw (same, co2e-whole) (⊗-mono E (whole (a .emitted)) (whole g) (≺-≼ _ _ g-pos) (b .emitted-not-below))
+  not-below = rw (same, co2e-whole) (⊗-mono (x .emitted) (whole (a .sums .emitted)) (whole g) (≺-≼ _ _ g-pos) (b .emitted-not-below))
 
-  gathered : (E ⊕ whole (a .gas)) ⊗ whole g ≡ PE ⊗ whole 1000000000 ⊕ whole (g * a .gas)
-  gathered = rw (⊕-⊗, same, whole-⊗) (ap (λ (k : ℕ). E ⊗ whole g ⊕ whole k) (omega arith))
+  gathered : (x .emitted ⊕ whole (a .sums .gas)) ⊗ whole g ≡ PE ⊗ whole 1000000000 ⊕ whole (g * a .sums .gas)
+  gathered = rw (⊕-⊗, same, whole-⊗) (ap (λ (k : ℕ). x .emitted ⊗ whole g ⊕ whole k) (omega arith))
 
-  near : 0 < a .gas → whole (co2e a) ≺ PE ⊗ whole 1000000000 ⊕ whole (g * a .gas)
-  near some = rw (← gathered, co2e-whole) (⊗-smono (whole (a .emitted)) (E ⊕ whole (a .gas)) (whole g) g-pos (b .emitted-near some))
+  near : 0 < a .sums .gas → whole (co2e a) ≺ PE ⊗ whole 1000000000 ⊕ whole (g * a .sums .gas)
+  near some = rw (← gathered, co2e-whole) (⊗-smono (whole (a .sums .emitted)) (x .emitted ⊕ whole (a .sums .gas)) (whole g) g-pos (rw (flat, ⊕-zero) at (b .emitted-near some)))
 
-  none-is : a .gas ≡ 0 → (co2e a ≡ 0) × (PE ≡ whole 0)
+  none-is : a .sums .gas ≡ 0 → (co2e a ≡ 0) × (PE ≡ whole 0)
   unfolding co2e
   none-is n = let z = b .no-gas n in (
     rw (z .1) (omega arith),
     PE-is ∙ rw (z .3) (let r : (x y : Frac) → whole 0 ⊗ x ⊗ y ≡ whole 0 = λ x y. rw (⊗-comm (whole 0) x, ⊗-zero, ⊗-comm (whole 0) y, ⊗-zero) in r _ _),
   )
 
-  at-most : whole (co2e a) ≼ PE ⊗ whole 1000000000 ⊕ whole (g * a .gas)
-  at-most = by-N (a .gas) refl
+  at-most : whole (co2e a) ≼ PE ⊗ whole 1000000000 ⊕ whole (g * a .sums .gas)
+  at-most = by-N (a .sums .gas) refl
     where
-      by-N : (k : ℕ) → a .gas ≡ k → whole (co2e a) ≼ PE ⊗ whole 1000000000 ⊕ whole (g * a .gas)
-      by-N zero is = let n = none-is is in rw (n .0, n .1, ⊗-comm (whole 0) (whole 1000000000), ⊗-zero, zero-⊕) (whole-≼ 0 (g * a .gas) .1 (omega arith))
+      by-N : (k : ℕ) → a .sums .gas ≡ k → whole (co2e a) ≼ PE ⊗ whole 1000000000 ⊕ whole (g * a .sums .gas)
+      by-N zero is = let n = none-is is in rw (n .0, n .1, ⊗-comm (whole 0) (whole 1000000000), ⊗-zero, zero-⊕) (whole-≼ 0 (g * a .sums .gas) .1 (omega arith))
       by-N (suc k) is = ≺-≼ _ _ (near (omega arith))
 
   -- CO2 equivalent in tonnes, before it is rounded
@@ -95,11 +97,11 @@ module _ (PE E : Frac) (g : ℕ) (a : Account) (gwp-is : a .site .gwp ≡ g) (po
   unfolding _⊘_
   X-above = subst (λ (z : Frac). z ≼ X) (back-again PE) (⊗-mono (PE ⊗ whole 1000000000) (whole (co2e a)) (inv (whole 1000000000)) (≺-≼ _ _ per-tonne) not-below)
 
-  X-near : X ≼ PE ⊕ whole (g * a .gas) ⊘ whole 1000000000
+  X-near : X ≼ PE ⊕ whole (g * a .sums .gas) ⊘ whole 1000000000
   unfolding _⊘_
   X-near =
-      let h = ⊗-mono (whole (co2e a)) (PE ⊗ whole 1000000000 ⊕ whole (g * a .gas)) (inv (whole 1000000000)) (≺-≼ _ _ per-tonne) at-most in
-      subst (λ (z : Frac). X ≼ z) (⊕-⊗ (PE ⊗ whole 1000000000) (whole (g * a .gas)) (inv (whole 1000000000)) ∙ ap (λ (z : Frac). z ⊕ whole (g * a .gas) ⊗ inv (whole 1000000000)) (back-again PE)) h
+      let h = ⊗-mono (whole (co2e a)) (PE ⊗ whole 1000000000 ⊕ whole (g * a .sums .gas)) (inv (whole 1000000000)) (≺-≼ _ _ per-tonne) at-most in
+      subst (λ (z : Frac). X ≼ z) (⊕-⊗ (PE ⊗ whole 1000000000) (whole (g * a .sums .gas)) (inv (whole 1000000000)) ∙ ap (λ (z : Frac). z ⊕ whole (g * a .sums .gas) ⊗ inv (whole 1000000000)) (back-again PE)) h
 
   module _ (t : ℕ) (e : closing a ≡ Tonnes t) where
     t-is : roundUp X ≡ t
@@ -108,11 +110,11 @@ module _ (PE E : Frac) (g : ℕ) (a : Account) (gwp-is : a .site .gwp ≡ g) (po
     PE-below : PE ≼ whole t
     PE-below = ≼-trans PE X (whole t) X-above (subst (λ (k : ℕ). X ≼ whole k) t-is (up-not-below X))
 
-    tonnes-close : whole t ≺ PE ⊕ whole (g * a .gas) ⊘ whole 1000000000 ⊕ whole 1
+    tonnes-close : whole t ≺ PE ⊕ whole (g * a .sums .gas) ⊘ whole 1000000000 ⊕ whole 1
     tonnes-close =
-        ≺-≼-trans (whole t) (X ⊕ whole 1) (PE ⊕ whole (g * a .gas) ⊘ whole 1000000000 ⊕ whole 1)
+        ≺-≼-trans (whole t) (X ⊕ whole 1) (PE ⊕ whole (g * a .sums .gas) ⊘ whole 1000000000 ⊕ whole 1)
         (subst (λ (k : ℕ). whole k ≺ X ⊕ whole 1) t-is (up-near X (ratio-nonneg (co2e a) 1000000000 (omega arith))))
-        (⊕-mono-left X (PE ⊕ whole (g * a .gas) ⊘ whole 1000000000) (whole 1) X-near)
+        (⊕-mono-left X (PE ⊕ whole (g * a .sums .gas) ⊘ whole 1000000000) (whole 1) X-near)
 
 pub equation-15 : Equation15
 equation-15 m pos s days a es reached =
@@ -122,11 +124,12 @@ equation-15 m pos s days a es reached =
     let pos-gwp : 0 < s .gwp = subst (λ (x : Site). 0 < x .gwp) site-is (gwp-least (a .site) (reached-examined reached)) in
     let same = PE-mg m (s .gwp) es in
     let PE = PE-flare m (s .gwp) es in
-    let E = exactTotal (emittedOf m) es in
+    let x = exactSums (exactOf m) es in
+    let flat = no-slack m es in
     record {
-      no-gas = none-is PE E (s .gwp) a gwp-is pos-gwp same _ _ _ b;
-      co2e-not-below = not-below PE E (s .gwp) a gwp-is pos-gwp same _ _ _ b;
-      co2e-near = near PE E (s .gwp) a gwp-is pos-gwp same _ _ _ b;
-      tonnes-not-below = PE-below PE E (s .gwp) a gwp-is pos-gwp same _ _ _ b;
-      tonnes-near = tonnes-close PE E (s .gwp) a gwp-is pos-gwp same _ _ _ b;
+      no-gas = none-is PE x (s .gwp) a gwp-is pos-gwp same flat b;
+      co2e-not-below = not-below PE x (s .gwp) a gwp-is pos-gwp same flat b;
+      co2e-near = near PE x (s .gwp) a gwp-is pos-gwp same flat b;
+      tonnes-not-below = PE-below PE x (s .gwp) a gwp-is pos-gwp same flat b;
+      tonnes-near = tonnes-close PE x (s .gwp) a gwp-is pos-gwp same flat b;
     }

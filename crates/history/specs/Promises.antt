@@ -8,7 +8,9 @@ use lib.ListN.{length, getD}
 use Rattle.exact.specs.Fractions.{Frac}
 use Rattle.site.specs.declared.Site.{Site}
 use Rattle.maintenance.specs.Days.{inTime, listedDays}
-use Rattle.tool06.specs.Bounds.{Bounds, Entry, IsAccepted, figuresOf, emittedOf, destroyedOf, oneIf, gasOf, total, exactTotal}
+use Rattle.sums.specs.Bounds.{exactSums, Bounds}
+use Rattle.sums.specs.Sums.{total, count}
+use Rattle.tool06.specs.Bounds.{Entry, IsAccepted, figuresOf, worthOf, exactOf}
 use Rattle.tool06.specs.Tool.{Each, Masses, Positive, AllPositive, by-equation-7}
 use Rattle.account.specs.Closing.{co2e}
 use Rattle.account.specs.Kept.{Kept}
@@ -29,15 +31,12 @@ FromMinute s days k (e ∷ es) = InPlace s days k e × FromMinute s days (suc k)
 
 -- R84: what the account holds is the sum, or the number, over exactly these minutes
 pub record Holds (m : Masses) (a : Account) (es : List Entry) : Type 0 where
-  pub minutes-are : a .minutes ≡ length es
-  pub gas-is : a .gas ≡ total gasOf es
-  pub fed-is : a .fed ≡ total (λ e. figuresOf m e .fed) es
-  pub emitted-is : a .emitted ≡ total (λ e. figuresOf m e .emitted) es
-  pub destroyed-is : a .destroyed ≡ total (λ e. figuresOf m e .destroyed) es
+  pub minutes-are : a .sums .minutes ≡ length es
+  pub sums-are : a .sums ≡ total (worthOf m) es
   -- R84: "each count is the number of accepted minutes under that rule"
-  pub counts-are : (k : ℕ) → k < 10 → getD (a .counts) k 0 ≡ total (λ e. oneIf (eqb (figuresOf m e .rule) k)) es
+  pub counts-are : (k : ℕ) → k < 10 → getD (a .counts) k 0 ≡ count (λ e. eqb (figuresOf m e .rule) k) es
   -- R47: "CO2 equivalent, in mg, is GWP times the emitted sum"
-  pub co2e-is : co2e a ≡ a .site .gwp * total (λ e. figuresOf m e .emitted) es
+  pub co2e-is : co2e a ≡ a .site .gwp * total (worthOf m) es .emitted
 
 -- R59: for every account that any calls can give
 abbrev pub OfEvery : ((m : Masses) (s : Site) (days : List ℤ) (a : Account) (es : List Entry) → Type 0) → Type 0
@@ -61,8 +60,7 @@ ByAnyMasses = OfEvery (λ m s days a es. (m' : Masses) → Positive m' → Reach
 
 -- R86: the sums beside the exact sums with these masses
 abbrev pub BesideTheTool : Masses → Account → List Entry → Type 0
-BesideTheTool m a es =
-    Bounds (a .gas) (a .fed) (a .emitted) (a .destroyed) (exactTotal (emittedOf m) es) (exactTotal (destroyedOf m) es)
+BesideTheTool m a es = Bounds (a .sums) (exactSums (exactOf m) es)
 
 -- R86: "For any calls on an account, beside the tool's own equations as exact fractions, for any positive molecular mass", any for each minute
 abbrev pub DemandThree : Type 0

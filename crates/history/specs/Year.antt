@@ -23,4 +23,4 @@ pub record BesideEquation15 (PE : Frac) (GWP N : ℕ) (a : Account) : Type 0 whe
 
 -- R87: of every account, with its own minutes with gas
 abbrev pub Equation15 : Type 0
-Equation15 = OfEvery (λ m s days a es. BesideEquation15 (PE-flare m (s .gwp) es) (s .gwp) (a .gas) a)
+Equation15 = OfEvery (λ m s days a es. BesideEquation15 (PE-flare m (s .gwp) es) (s .gwp) (a .sums .gas) a)

@@ -7,6 +7,7 @@ use borrow.Author.Tests.{le-leb, lt-leb}
 use lib.ListN.{length, length-append}
 use Rattle.refusals.specs.Refusals.{numberOf}
 use Rattle.refusals.specs.declared.refusal.Refusal.{Refusal}
+use Rattle.sums.specs.declared.Sums.{Sums}
 use Rattle.tool06.specs.declared.figures.Judged.{Judged}
 use Rattle.tool06.specs.declared.figures.Judged.the-variants.{Accepted, Refused}
 use Rattle.account.specs.Closing.{co2e, closing}
@@ -14,7 +15,7 @@ use Rattle.account.specs.declared.Account.{Account}
 use Rattle.account.specs.declared.close.Closed.{Closed}
 use Rattle.account.specs.declared.close.Closed.the-variants.{Tonnes, Refused as Missing}
 use Rattle.text.proofs.Decimals.{decimal-within}
-use Rattle.lines.specs.Lines.{methane, acceptedLine, refusedLine, minuteLine, totalLine, standing, yearLine, siteLine, ruleLine}
+use Rattle.lines.specs.Lines.{methane, acceptedLine, refusedLine, minuteLine, sumsText, totalLine, standing, yearLine, siteLine, ruleLine}
 use Rattle.lines.specs.Promises.{NoneCut}
 
 methane-within : (fed emitted destroyed : ℕ) → length (methane fed emitted destroyed) ≤ 85
@@ -29,10 +30,15 @@ minute-within minute (Accepted f) =
 minute-within minute (Refused r) =
     simp length-append (omega (arith, decimal-within minute, decimal-within (numberOf r)))
 
+sums-within : (s : Sums) (co2e : ℕ) → length (sumsText s co2e) ≤ 156
+unfolding sumsText
+sums-within s co2e =
+    simp length-append (omega (arith, decimal-within (s .minutes), decimal-within (s .gas), methane-within (s .fed) (s .emitted) (s .destroyed), decimal-within co2e))
+
 total-within : (a : Account) → length (totalLine a) ≤ 163
 unfolding totalLine
 total-within a =
-    simp length-append (omega (arith, decimal-within (a .minutes), decimal-within (a .gas), methane-within (a .fed) (a .emitted) (a .destroyed), decimal-within (co2e a)))
+    simp length-append (omega (arith, sums-within (a .sums) (co2e a)))
 
 standing-within : (closed : Closed) → length (standing closed) ≤ 28
 unfolding standing

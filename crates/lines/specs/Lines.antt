@@ -6,6 +6,7 @@ use lib.Dec.{leb}
 use lib.ListN.{length}
 use Rattle.refusals.specs.Refusals.{numberOf}
 use Rattle.refusals.specs.declared.refusal.Refusal.{Refusal}
+use Rattle.sums.specs.declared.Sums.{Sums}
 use Rattle.tool06.specs.declared.figures.Figures.{Figures}
 use Rattle.tool06.specs.declared.figures.Judged.{Judged}
 use Rattle.tool06.specs.declared.figures.Judged.the-variants.{Accepted, Refused}
@@ -42,14 +43,17 @@ abbrev pub minuteLine : ℕ → Judged → List ℕ
 minuteLine minute (Accepted f) = acceptedLine minute f
 minuteLine minute (Refused r) = refusedLine minute r
 
--- R71: "then minutes accepted, minutes with gas, sums"
+-- R71: "minutes accepted, minutes with gas, sums", and CO2 equivalent
+unfoldable pub sumsText : Sums → ℕ → List ℕ
+sumsText s co2e =
+    decimal (s .minutes)
+    ++ text " gas " ++ decimal (s .gas)
+    ++ methane (s .fed) (s .emitted) (s .destroyed)
+    ++ text " co2e " ++ decimal co2e
+
+-- R71: the account's
 unfoldable pub totalLine : Account → List ℕ
-totalLine a =
-    text "total " ++ decimal (a .minutes)
-    ++ text " gas " ++ decimal (a .gas)
-    ++ methane (a .fed) (a .emitted) (a .destroyed)
-    ++ text " co2e " ++ decimal (co2e a)
-    ++ text "\n"
+totalLine a = text "total " ++ sumsText (a .sums) (co2e a) ++ text "\n"
 
 -- R72: "`open` becomes `tonnes T` when closed"
 unfoldable pub standing : Closed → List ℕ

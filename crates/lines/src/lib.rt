@@ -1,16 +1,15 @@
 // The lines of the program `flare`, each put into a buffer from a place on.
 ghost use mathlib.Core.Path.{_≡_};
-ghost use mathlib.Core.List.{_++_};
 ghost use Prim.Native.Nat.{_+_, _-_, _≤_};
 ghost use lib.ListN.{length};
 ghost use Rattle.account.specs.Kept.{Kept};
 ghost use Rattle.text.specs.Places.{PutFrom};
-ghost use Rattle.text.specs.Text.{text, decimal};
-ghost use Rattle.lines.specs.Lines.{methane, acceptedLine, refusedLine, minuteLine, totalLine, standing, yearLine, siteLine, ruleLine};
+ghost use Rattle.lines.specs.Lines.{methane, acceptedLine, refusedLine, minuteLine, sumsText, totalLine, standing, yearLine, siteLine, ruleLine};
 ghost use Rattle.lines.specs.Places.{placed, placeAfter};
 use account::Account;
 use account::Closed;
 use refusals::Refusal;
+use sums::Sums;
 use text::put_decimal;
 use text::put_text;
 use tool06::Figures;
@@ -80,33 +79,29 @@ pub fn put_minute(out: &mut [u8], at: usize, minute: u32, answer: Judged) -> usi
     }
 }
 
-// Minutes accepted, and of them those with gas.
-fn put_counts(out: &mut [u8], at: usize, minutes: u32, gas: u32) -> usize
-    requires { ⌜ at + 51 ≤ length (now out) ⌝ }
-    ensures { λ r. ⌜ PutFrom (now (out .entry)) at (text "total " ++ decimal minutes ++ text " gas " ++ decimal gas) (now (out .exit)) r ⌝ }
-    ensures within { λ r. ⌜ r ≤ at + 51 ⌝ }
+// Minutes accepted, of them those with gas, the sums of methane, and CO2 equivalent.
+fn put_sums(out: &mut [u8], at: usize, sums: Sums, co2e: u64) -> usize
+    requires { ⌜ at + 156 ≤ length (now out) ⌝ }
+    ensures { λ r. ⌜ PutFrom (now (out .entry)) at (sumsText sums co2e) (now (out .exit)) r ⌝ }
+    ensures within { λ r. ⌜ r ≤ at + 156 ⌝ }
 {
-    let at = put_text(out, at, b"total ");
-    let at = put_decimal(out, at, minutes as u64);
+    let at = put_decimal(out, at, sums.minutes as u64);
     let at = put_text(out, at, b" gas ");
-    put_decimal(out, at, gas as u64)
+    let at = put_decimal(out, at, sums.gas as u64);
+    let at = put_methane(out, at, sums.fed, sums.emitted, sums.destroyed);
+    let at = put_text(out, at, b" co2e ");
+    put_decimal(out, at, co2e)
 }
 
 pub fn put_total(out: &mut [u8], at: usize, account: Account) -> usize
     requires { ⌜ Kept account ⌝ }
     ensures { λ r. ⌜ (r ≡ placeAfter (now (out .entry)) at (totalLine account)) × (now (out .exit) ≡ placed (now (out .entry)) at (totalLine account)) ⌝ }
 {
-    let minutes = account.minutes();
-    let gas = account.gas();
-    let fed = account.fed();
-    let emitted = account.emitted();
-    let destroyed = account.destroyed();
+    let sums = account.sums();
     let co2e = account.co2e();
     if LONGEST <= room(out, at) {
-        let at = put_counts(out, at, minutes, gas);
-        let at = put_methane(out, at, fed, emitted, destroyed);
-        let at = put_text(out, at, b" co2e ");
-        let at = put_decimal(out, at, co2e);
+        let at = put_text(out, at, b"total ");
+        let at = put_sums(out, at, sums, co2e);
         put_text(out, at, b"\n")
     } else {
         at

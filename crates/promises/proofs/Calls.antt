@@ -5,7 +5,7 @@ use mathlib.Core.Bool.{Bool, true, false, not, cond}
 use mathlib.Core.List.{List, [], _∷_, _++_}
 use mathlib.Core.Option.{some, none}
 use lib.Dec.{eqb, leb}
-use lib.ListN.{length, take, drop, length-append}
+use lib.ListN.{length, length-append}
 use lib.Seq.{take-append-seam, drop-append-seam}
 use borrow.Author.Tests.{le-leb, lt-leb}
 use native.Mathlib.Omega.{arith}
@@ -31,11 +31,11 @@ use Rattle.tool06.specs.declared.figures.Judged.the-variants.{Accepted, Refused
 use Rattle.account.specs.Adding.{isFull, entry, addLines, answer, afterAnswer, addTo}
 use Rattle.account.specs.Closing.{co2e, closing, inTonnes, chart}
 use Rattle.account.specs.Opening.{openLines, fresh, opened}
+use Rattle.account.specs.Turn.{recordsOf, AddedAll, withAnswer, addAll}
 use Rattle.account.specs.declared.Account.{Account}
 use Rattle.account.specs.declared.close.Closed.the-variants.{Tonnes, Refused as NotClosed}
-use Rattle.run.specs.Check.{stopOr, firstRefused, wholeOr, checked}
+use Rattle.run.specs.Check.{firstRefused, wholeOr, checked}
 use Rattle.run.specs.Part.{dayPart}
-use Rattle.run.specs.declared.check.Checked.{Checked}
 use Rattle.host.specs.Single.{singleLines, single, singleFigures, returned, answerBytes, answerAfter}
 use Rattle.promises.specs.Numbers.{Said, given, refused, saidOfSite, saidOfMinute, saidOfJudged, saidOfClosed, saidOfVerdict, saidOfChecked, saidOfClass, decides}
 use Rattle.promises.specs.Calls.{ReadingASite, ReadingAMinute, WritingASite, WritingAMinute, OpeningAnAccount, AddingAMinute, ClosingAYear, Charting, TakingADay, ASingleMinute, Classing, orLater, firstSaid, CheckingARun, NumbersOfCalls, RefusedChangesNothing}
@@ -131,23 +131,23 @@ stops zero expected later h = absurd (omega arith)
 stops (suc k) expected later h = refl
 
 step :
-    (a : Account) (j : Judged) (rest : Checked) (later : Said (ℕ × ℕ))
-    → saidOfChecked rest ≡ later
-    → saidOfChecked (stopOr a j rest) ≡ orLater (saidOfJudged j .number) (a .minutes) later
+    (a : Account) (j : Judged) (rest : AddedAll) (later : Said (ℕ × ℕ))
+    → saidOfChecked (firstRefused rest) ≡ later
+    → saidOfChecked (firstRefused (withAnswer j a rest)) ≡ orLater (saidOfJudged j .number) (a .sums .minutes) later
 step a (Accepted f) rest later e = e
-step a (Refused r) rest later e = stops (numberOf r) (a .minutes) later (no-zero r)
+step a (Refused r) rest later e = stops (numberOf r) (a .sums .minutes) later (no-zero r)
 
-in-turn : (m : Masses) (n : ℕ) (a : Account) (run : List ℕ) → saidOfChecked (firstRefused m n a run) ≡ firstSaid m n a run
-unfolding firstRefused
-in-turn m zero a run = refl
-in-turn m (suc n) a run = step a (addTo m a (take 54 run) .answer) _ _ (in-turn m n (addTo m a (take 54 run) .account) (drop 54 run))
+in-turn : (m : Masses) (a : Account) (bs : List (List ℕ)) → saidOfChecked (firstRefused (addAll m a bs)) ≡ firstSaid m a bs
+unfolding addTo
+in-turn m a [] = refl
+in-turn m a (b ∷ bs) = step a (answer m a b) _ _ (in-turn m (afterAnswer a (answer m a b)) bs)
 
 checking-a-run : CheckingARun
 unfolding checked
 checking-a-run m a run = by-whole (eqb (length run % 54) 0)
   where
-    by-whole : (whole : Bool) → saidOfChecked (wholeOr whole (firstRefused m (length run / 54) a run)) ≡ cond whole (firstSaid m (length run / 54) a run) (record { number = 1; values = none })
-    by-whole true = in-turn m (length run / 54) a run
+    by-whole : (whole : Bool) → saidOfChecked (wholeOr whole (firstRefused (addAll m a (recordsOf run)))) ≡ cond whole (firstSaid m a (recordsOf run)) (record { number = 1; values = none })
+    by-whole true = in-turn m a (recordsOf run)
     by-whole false = refl
 
 classing : Classing

@@ -4,12 +4,12 @@ use Rattle.site.proofs.Unique as site
 use Rattle.minute.proofs.RoundTrip.{minute-reads-back, minute-writes-back}
 use Rattle.minute.proofs.Unique as minute
 use Rattle.tool06.proofs.Kept.{fed-form, short-form, sign-of-F, K-is-positive, equation-seven}
-use Rattle.tool06.proofs.Sums.{masses-cancel}
+use Rattle.tool06.proofs.Sums.{no-slack, masses-cancel}
 use Rattle.rules.proofs.Unique.{class-of-one}
 use Rattle.account.proofs.Accepted.{nothing-else}
 use Rattle.account.proofs.Laws.{only-opened}
 use Rattle.account.proofs.Lossless.{lossless}
-use Rattle.account.proofs.Unique.{open-one, add-one, co2e-one, close-one, chart-one, site-one, minutes-one, gas-one, fed-one, emitted-one, destroyed-one, counts-one}
+use Rattle.account.proofs.Unique.{open-one, add-one, co2e-one, close-one, chart-one, site-one, sums-one, minutes-one, counts-one}
 use Rattle.run.proofs.Unique.{check-run-one, day-part-one}
 use Rattle.host.proofs.Unique.{flare-minute-one}
 use Rattle.history.proofs.Holds.{every-kept}
@@ -38,11 +38,8 @@ one-outcome-of-calls = record {
   closing-a-year = close-one;
   charting = chart-one;
   reading-site = site-one;
+  reading-sums = sums-one;
   reading-minutes = minutes-one;
-  reading-gas = gas-one;
-  reading-fed = fed-one;
-  reading-emitted = emitted-one;
-  reading-destroyed = destroyed-one;
   reading-counts = counts-one;
   checking-a-run = check-run-one;
   part-of-a-day = day-part-one;
@@ -62,7 +59,7 @@ product = record {
   chart-points = lossless;
   printed = (none-cut, reads-back, in-pieces);
   program = reports-are-given;
-  demand-three = (demand-three, demand-three-by-seven);
+  demand-three = (demand-three, demand-three-by-seven, no-slack);
   equation-15 = equation-15;
   short-form = (fed-form, short-form, sign-of-F, K-is-positive);
   any-masses = (masses-cancel, by-any-masses, equation-seven);

@@ -7,7 +7,7 @@ use mathlib.Core.Option.{some, none}
 use lib.Dec.{eqb, leb}
 use lib.Ieee.{binary64, ofInt, div}
 use lib.IntN.{ℤ, pos}
-use lib.ListN.{length, take, drop}
+use lib.ListN.{length}
 use Rattle.exact.specs.Bytes.{bytesOf}
 use Rattle.exact.specs.Rounding.{ceilDiv}
 use Rattle.refusals.specs.Tables.{when}
@@ -25,6 +25,7 @@ use Rattle.tool06.specs.Tool.{Masses}
 use Rattle.account.specs.Adding.{isFull, entry, addLines, addTo}
 use Rattle.account.specs.Closing.{co2e, closing, chart}
 use Rattle.account.specs.Opening.{openLines, fresh, opened}
+use Rattle.account.specs.Turn.{recordsOf}
 use Rattle.account.specs.declared.Account.{Account}
 use Rattle.run.specs.Check.{checked}
 use Rattle.run.specs.Part.{dayPart}
@@ -90,26 +91,26 @@ abbrev pub orLater : ℕ → ℕ → Said (ℕ × ℕ) → Said (ℕ × ℕ)
 orLater zero expected later = later
 orLater (suc k) expected later = record { number = suc k; values = some (expected / 1440, expected % 1440) }
 
--- R62: "the first record that adding them in turn would refuse, as day, minute of the day (from the expected minute) and number, or none", of n records
-abbrev pub firstSaid : Masses → ℕ → Account → List ℕ → Said (ℕ × ℕ)
-firstSaid m zero a run = record { number = 0; values = none }
-firstSaid m (suc n) a run =
-    let added = addTo m a (take 54 run) in
-    orLater (saidOfJudged (added .answer) .number) (a .minutes) (firstSaid m n (added .account) (drop 54 run))
+-- R62: "the first record that adding them in turn would refuse, as day, minute of the day (from the expected minute) and number, or none"
+abbrev pub firstSaid : Masses → Account → List (List ℕ) → Said (ℕ × ℕ)
+firstSaid m a [] = record { number = 0; values = none }
+firstSaid m a (b ∷ bs) =
+    let added = addTo m a b in
+    orLater (saidOfJudged (added .answer) .number) (a .sums .minutes) (firstSaid m (added .account) bs)
 
 -- R62: "a lent run of whole records (else 1, without a place)"
 abbrev pub CheckingARun : Type 0
 CheckingARun =
     (m : Masses) (a : Account) (run : List ℕ) →
     saidOfChecked (checked m a run)
-    ≡ cond (eqb (length run % 54) 0) (firstSaid m (length run / 54) a run) (record { number = 1; values = none })
+    ≡ cond (eqb (length run % 54) 0) (firstSaid m a (recordsOf run)) (record { number = 1; values = none })
 
 -- R49: "fed methane and CO2 equivalent in tonnes", each "the mg sum converted .., then one division by 1e9"
 abbrev pub Charting : Type 0
 Charting =
     (a : Account) →
-    (chart a .fed ≡ div binary64 (ofInt binary64 (pos (a .fed))) (ofInt binary64 (pos 1000000000)))
-    × (chart a .co2e ≡ div binary64 (ofInt binary64 (pos (a .site .gwp * a .emitted))) (ofInt binary64 (pos 1000000000)))
+    (chart a .fed ≡ div binary64 (ofInt binary64 (pos (a .sums .fed))) (ofInt binary64 (pos 1000000000)))
+    × (chart a .co2e ≡ div binary64 (ofInt binary64 (pos (a .site .gwp * a .sums .emitted))) (ofInt binary64 (pos 1000000000)))
 
 -- R63: the 77,760 bytes that stand behind day x 77,760 others; 21, where they are not all there, shows as an empty part
 pub record TakingADay : Type 0 where

@@ -15,11 +15,8 @@ use Rattle.account.proofs.Account.co2e.Reads as co2e
 use Rattle.account.proofs.Account.close.Reads as close
 use Rattle.account.proofs.Account.chart.Reads as chart
 use Rattle.account.proofs.Account.site.Reads as site
+use Rattle.account.proofs.Account.sums.Reads as sums
 use Rattle.account.proofs.Account.minutes.Reads as minutes
-use Rattle.account.proofs.Account.gas.Reads as gas
-use Rattle.account.proofs.Account.fed.Reads as fed
-use Rattle.account.proofs.Account.emitted.Reads as emitted
-use Rattle.account.proofs.Account.destroyed.Reads as destroyed
 use Rattle.account.proofs.Account.counts.Reads as counts
 use Rattle.run.proofs.check_run.Reads as check-run
 use Rattle.run.proofs.day_part.Reads as day-part
@@ -39,11 +36,8 @@ pub record OneOutcomeOfCalls : Type 1 where
   pub charting : (κs : _) (a : _) → OneResult (chart.Learnt κs a)
   -- the readers of an account
   pub reading-site : (κs : _) (a : _) → OneResult (site.Learnt κs a)
+  pub reading-sums : (κs : _) (a : _) → OneResult (sums.Learnt κs a)
   pub reading-minutes : (κs : _) (a : _) → OneResult (minutes.Learnt κs a)
-  pub reading-gas : (κs : _) (a : _) → OneResult (gas.Learnt κs a)
-  pub reading-fed : (κs : _) (a : _) → OneResult (fed.Learnt κs a)
-  pub reading-emitted : (κs : _) (a : _) → OneResult (emitted.Learnt κs a)
-  pub reading-destroyed : (κs : _) (a : _) → OneResult (destroyed.Learnt κs a)
   pub reading-counts : (κs : _) (a : _) → OneResult (counts.Learnt κs a)
   pub checking-a-run : (κs : _) (a : _) → OneResult (check-run.Learnt κs a)
   -- R63: a part of the run: the same bytes at the same place, so the same pointer and length

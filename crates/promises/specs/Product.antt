@@ -4,7 +4,7 @@ use Rattle.records.specs.RoundTrip.{ReadsBack, WritesBack}
 use Rattle.site.specs.Promises.{siteKind}
 use Rattle.minute.specs.Promises.{minuteKind}
 use Rattle.tool06.specs.Promises.{FedForm, ShortForm, SignOfF, KPositive, EquationSeven}
-use Rattle.tool06.specs.Bounds.{MassesCancel}
+use Rattle.tool06.specs.Bounds.{NoSlack, MassesCancel}
 use Rattle.account.specs.Promises.{OnlyOpened, NothingElse, Lossless}
 use Rattle.history.specs.Promises.{EveryKept, Histories, OpenedStays, ByAnyMasses, DemandThree, DemandThreeBySeven}
 use Rattle.history.specs.Year.{Equation15}
@@ -40,8 +40,8 @@ pub record Product : Type 1 where
   pub printed : NoneCut × DecimalsReadBack × InPieces
   -- R59, R68: the account that the program ends with is one that the calls give, so that all here holds of it
   pub program : ReportsAreGiven
-  -- R86: demand 3. The sums beside the tool's equations, with any positive molecular mass for each minute, and with that of each minute's own gas
-  pub demand-three : DemandThree × DemandThreeBySeven
+  -- R86: demand 3. The sums beside the tool's equations, with any positive molecular mass for each minute, and with that of each minute's own gas; nothing widens its bounds
+  pub demand-three : DemandThree × DemandThreeBySeven × NoSlack
   -- R87: CO2 equivalent and the tonnes beside equation (15)
   pub equation-15 : Equation15
   -- R40 to R42: the short form is the tool's equations

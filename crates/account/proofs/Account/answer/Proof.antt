@@ -30,7 +30,7 @@ decided v =
     (led (isFull (a .self)) Full (headLines 54 1 (a .bytes .now)))
 
 judge-requires : tie.Need-judge-requires
-judge-requires c κs = site-examined (c .before .before .before .before .before .before .before .before .before .before .before .pre)
+judge-requires c κs = site-examined (c .before .before .before .before .before .before .before .before .before .before .before .before .pre)
 
 returns : tie.Need-returns
 unfolding answer addLines
@@ -44,7 +44,7 @@ returns c m pos =
 returns-2 : tie.Need-returns-2
 unfolding answer addLines judged
 returns-2 c m pos =
-    let i = c .before .before .before in
+    let i = c .before .before .before .before in
     let v = i .before .before .before .before in
     let a = v .before .before .before .before .before .args in
     let n = minuteOf (a .bytes .now) in

@@ -6,11 +6,14 @@ use Rattle.account.proofs.Account.chart.Statement.{statement}
 use Rattle.account.proofs.Account.chart.Tie as tie
 
 in-tonnes-requires : tie.Need-in-tonnes-requires
-in-tonnes-requires c κs = let h = sum-within (c .pre) (c .args .self .fed) (c .pre .fed-within) in omega arith
+in-tonnes-requires c κs =
+    let k = c .before .pre in
+    let h = sum-within k (c .before .args .self .sums .fed) (k .sums-within .fed-within) in
+    omega arith
 
 in-tonnes-requires-2 : tie.Need-in-tonnes-requires-2
 in-tonnes-requires-2 c κs =
-    let h = co2e-within (c .before .before .pre) in
+    let h = co2e-within (c .before .before .before .pre) in
     let e = c .co2e .ensures in
     omega arith
 

@@ -15,10 +15,10 @@ fits x h = record { fits = omega arith }
 -- whichever of the sums is multiplied
 mul-result : tie.Need-mul-result
 mul-result c =
-    let k = c .before .before .before .pre in
-    let f = k .fed-within in
-    let e = k .emitted-within in
-    let d = k .destroyed-within in
+    let k = c .before .before .before .before .pre in
+    let f = k .sums-within .fed-within in
+    let e = k .sums-within .emitted-within in
+    let d = k .sums-within .destroyed-within in
     fits _ (gwp-times k _ (omega arith))
 
 returns : tie.Need-returns
