@@ -58,7 +58,7 @@ fn of_account(
 {
     match call {
         Call::Check => runs::check(account, part(bytes, 0, values[0]), out, at),
-        Call::Total => lines::put_total(out, at, account),
+        Call::Total => sheet::put_total(out, at, account),
         Call::Counts => year::counts(account, out, at),
         Call::Close => year::close(account, out, at),
         Call::Chart => year::chart(account, out, at),

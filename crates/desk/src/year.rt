@@ -16,7 +16,7 @@ pub(crate) fn close(account: Account, out: &mut [u8], at: usize) -> usize
     requires { ⌜ Kept account ⌝ }
 {
     match account.close() {
-        Closed::Tonnes(_) => lines::put_year(out, at, account),
+        Closed::Tonnes(_) => sheet::put_year(out, at, account),
         Closed::Refused(refusal) => put::only_refused(out, at, refusal),
     }
 }

@@ -7,18 +7,13 @@ use borrow.Author.Tests.{le-leb, lt-leb}
 use lib.ListN.{length, length-append}
 use Rattle.refusals.specs.Refusals.{numberOf}
 use Rattle.refusals.specs.declared.refusal.Refusal.{Refusal}
-use Rattle.sums.specs.declared.Sums.{Sums}
 use Rattle.tool06.specs.declared.figures.Judged.{Judged}
 use Rattle.tool06.specs.declared.figures.Judged.the-variants.{Accepted, Refused}
-use Rattle.account.specs.Closing.{co2e, closing}
-use Rattle.account.specs.declared.Account.{Account}
-use Rattle.account.specs.declared.close.Closed.{Closed}
-use Rattle.account.specs.declared.close.Closed.the-variants.{Tonnes, Refused as Missing}
 use Rattle.text.proofs.Decimals.{decimal-within}
-use Rattle.lines.specs.Lines.{methane, acceptedLine, refusedLine, minuteLine, sumsText, totalLine, standing, yearLine, siteLine, ruleLine}
+use Rattle.lines.specs.Lines.{methane, acceptedLine, refusedLine, minuteLine, siteLine, ruleLine}
 use Rattle.lines.specs.Promises.{NoneCut}
 
-methane-within : (fed emitted destroyed : ℕ) → length (methane fed emitted destroyed) ≤ 85
+pub methane-within : (fed emitted destroyed : ℕ) → length (methane fed emitted destroyed) ≤ 85
 unfolding methane
 methane-within fed emitted destroyed =
     simp length-append (omega (arith, decimal-within fed, decimal-within emitted, decimal-within destroyed))
@@ -29,25 +24,6 @@ minute-within minute (Accepted f) =
     simp length-append (omega (arith, decimal-within minute, decimal-within (f .rule), methane-within (f .fed) (f .emitted) (f .destroyed)))
 minute-within minute (Refused r) =
     simp length-append (omega (arith, decimal-within minute, decimal-within (numberOf r)))
-
-sums-within : (s : Sums) (co2e : ℕ) → length (sumsText s co2e) ≤ 156
-unfolding sumsText
-sums-within s co2e =
-    simp length-append (omega (arith, decimal-within (s .minutes), decimal-within (s .gas), methane-within (s .fed) (s .emitted) (s .destroyed), decimal-within co2e))
-
-total-within : (a : Account) → length (totalLine a) ≤ 163
-unfolding totalLine
-total-within a =
-    simp length-append (omega (arith, sums-within (a .sums) (co2e a)))
-
-standing-within : (closed : Closed) → length (standing closed) ≤ 28
-unfolding standing
-standing-within (Tonnes t) = simp length-append (omega (arith, decimal-within t))
-standing-within (Missing r) = omega arith
-
-year-within : (a : Account) → length (yearLine a) ≤ 163
-unfolding yearLine
-year-within a = simp length-append (omega (arith, decimal-within (a .site .year), standing-within (closing a)))
 
 site-within : (r : Refusal) → length (siteLine r) ≤ 163
 unfolding siteLine
@@ -62,4 +38,4 @@ rule-within rule minutes words = by-length (decLe (length words) 80)
     by-length (no long) = rw (lt-leb (length words) 80 (omega arith)) (omega arith)
 
 pub none-cut : NoneCut
-none-cut = record { minute = minute-within; total = total-within; year = year-within; site = site-within; rule = rule-within }
+none-cut = record { minute = minute-within; site = site-within; rule = rule-within }

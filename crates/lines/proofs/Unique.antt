@@ -4,19 +4,11 @@ use mathlib.Core.Path.{sym, _∙_}
 use denote.Ref.{now}
 use Rattle.exact.specs.One.{OneOutcome}
 use Rattle.lines.proofs.put_minute.Reads as put-minute
-use Rattle.lines.proofs.put_total.Reads as put-total
-use Rattle.lines.proofs.put_year.Reads as put-year
 use Rattle.lines.proofs.put_site.Reads as put-site
 use Rattle.lines.proofs.put_rule.Reads as put-rule
 
 pub put-minute-one : (κs : _) (a : _) → OneOutcome (λ e. now (e .0)) (put-minute.Learnt κs a)
 put-minute-one κs a x y e f p q = (p .0 ∙ sym (q .0), p .1 ∙ sym (q .1))
-
-pub put-total-one : (κs : _) (a : _) → OneOutcome (λ e. now (e .0)) (put-total.Learnt κs a)
-put-total-one κs a x y e f p q = (p .0 ∙ sym (q .0), p .1 ∙ sym (q .1))
-
-pub put-year-one : (κs : _) (a : _) → OneOutcome (λ e. now (e .0)) (put-year.Learnt κs a)
-put-year-one κs a x y e f p q = (p .0 ∙ sym (q .0), p .1 ∙ sym (q .1))
 
 pub put-site-one : (κs : _) (a : _) → OneOutcome (λ e. now (e .0)) (put-site.Learnt κs a)
 put-site-one κs a x y e f p q = (p .0 ∙ sym (q .0), p .1 ∙ sym (q .1))

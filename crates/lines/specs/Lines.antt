@@ -1,4 +1,4 @@
--- R69 to R73, R77: the lines that the program `flare` prints.
+-- R69, R70, R73, R77: the lines of a minute, of a refused site and of a rule.
 use Prim.Native.Nat.{ℕ}
 use mathlib.Core.Bool.{cond}
 use mathlib.Core.List.{List, [], _++_}
@@ -6,17 +6,12 @@ use lib.Dec.{leb}
 use lib.ListN.{length}
 use Rattle.refusals.specs.Refusals.{numberOf}
 use Rattle.refusals.specs.declared.refusal.Refusal.{Refusal}
-use Rattle.sums.specs.declared.Sums.{Sums}
 use Rattle.tool06.specs.declared.figures.Figures.{Figures}
 use Rattle.tool06.specs.declared.figures.Judged.{Judged}
 use Rattle.tool06.specs.declared.figures.Judged.the-variants.{Accepted, Refused}
-use Rattle.account.specs.Closing.{co2e, closing}
-use Rattle.account.specs.declared.Account.{Account}
-use Rattle.account.specs.declared.close.Closed.{Closed}
-use Rattle.account.specs.declared.close.Closed.the-variants.{Tonnes, Refused as Missing}
 use Rattle.text.specs.Text.{text, decimal}
 
--- R69, R71: methane in mg, of a minute or of a year
+-- R69, R71: methane in mg, of a minute or of sums
 unfoldable pub methane : ℕ → ℕ → ℕ → List ℕ
 methane fed emitted destroyed =
     text " fed " ++ decimal fed
@@ -42,27 +37,6 @@ refusedLine minute r =
 abbrev pub minuteLine : ℕ → Judged → List ℕ
 minuteLine minute (Accepted f) = acceptedLine minute f
 minuteLine minute (Refused r) = refusedLine minute r
-
--- R71: "minutes accepted, minutes with gas, sums", and CO2 equivalent
-unfoldable pub sumsText : Sums → ℕ → List ℕ
-sumsText s co2e =
-    decimal (s .minutes)
-    ++ text " gas " ++ decimal (s .gas)
-    ++ methane (s .fed) (s .emitted) (s .destroyed)
-    ++ text " co2e " ++ decimal co2e
-
--- R71: the account's
-unfoldable pub totalLine : Account → List ℕ
-totalLine a = text "total " ++ sumsText (a .sums) (co2e a) ++ text "\n"
-
--- R72: "`open` becomes `tonnes T` when closed"
-unfoldable pub standing : Closed → List ℕ
-standing (Tonnes t) = text " tonnes " ++ decimal t
-standing (Missing r) = text " open"
-
--- R72: the year, and how it stands
-unfoldable pub yearLine : Account → List ℕ
-yearLine a = text "year " ++ decimal (a .site .year) ++ standing (closing a) ++ text "\n"
 
 -- R73: "A refused site prints only `site refused R`"
 unfoldable pub siteLine : Refusal → List ℕ

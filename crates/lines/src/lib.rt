@@ -1,35 +1,31 @@
-// The lines of the program `flare`, each put into a buffer from a place on.
+// The lines of a minute, of a refused site and of a rule, each put into a buffer from a place on.
 ghost use mathlib.Core.Path.{_≡_};
 ghost use Prim.Native.Nat.{_+_, _-_, _≤_};
 ghost use lib.ListN.{length};
-ghost use Rattle.account.specs.Kept.{Kept};
 ghost use Rattle.text.specs.Places.{PutFrom};
-ghost use Rattle.lines.specs.Lines.{methane, acceptedLine, refusedLine, minuteLine, sumsText, totalLine, standing, yearLine, siteLine, ruleLine};
+ghost use Rattle.lines.specs.Lines.{methane, acceptedLine, refusedLine, minuteLine, siteLine, ruleLine};
 ghost use Rattle.lines.specs.Places.{placed, placeAfter};
-use account::Account;
-use account::Closed;
 use refusals::Refusal;
-use sums::Sums;
 use text::put_decimal;
 use text::put_text;
 use tool06::Figures;
 use tool06::Judged;
 
 // No line is longer.
-const LONGEST: usize = 163;
+pub const LONGEST: usize = 163;
 
 // A rule's words are no longer, so that its line is not either.
 const WORDS: usize = 80;
 
 // How many bytes there are from a place on.
-fn room(out: &[u8], at: usize) -> usize
+pub fn room(out: &[u8], at: usize) -> usize
     ensures { λ r. ⌜ r ≡ length (now (out .entry)) - at ⌝ }
 {
     if at < out.len() { out.len() - at } else { 0 }
 }
 
-// Methane in mg, of a minute or of a year.
-fn put_methane(out: &mut [u8], at: usize, fed: u64, emitted: u64, destroyed: u64) -> usize
+// Methane in mg, of a minute or of sums.
+pub fn put_methane(out: &mut [u8], at: usize, fed: u64, emitted: u64, destroyed: u64) -> usize
     requires { ⌜ at + 85 ≤ length (now out) ⌝ }
     ensures { λ r. ⌜ PutFrom (now (out .entry)) at (methane fed emitted destroyed) (now (out .exit)) r ⌝ }
     ensures within { λ r. ⌜ r ≤ at + 85 ⌝ }
@@ -74,66 +70,6 @@ pub fn put_minute(out: &mut [u8], at: usize, minute: u32, answer: Judged) -> usi
             Judged::Accepted(figures) => put_accepted(out, at, minute, figures),
             Judged::Refused(refusal) => put_refused(out, at, minute, refusal),
         }
-    } else {
-        at
-    }
-}
-
-// Minutes accepted, of them those with gas, the sums of methane, and CO2 equivalent.
-fn put_sums(out: &mut [u8], at: usize, sums: Sums, co2e: u64) -> usize
-    requires { ⌜ at + 156 ≤ length (now out) ⌝ }
-    ensures { λ r. ⌜ PutFrom (now (out .entry)) at (sumsText sums co2e) (now (out .exit)) r ⌝ }
-    ensures within { λ r. ⌜ r ≤ at + 156 ⌝ }
-{
-    let at = put_decimal(out, at, sums.minutes as u64);
-    let at = put_text(out, at, b" gas ");
-    let at = put_decimal(out, at, sums.gas as u64);
-    let at = put_methane(out, at, sums.fed, sums.emitted, sums.destroyed);
-    let at = put_text(out, at, b" co2e ");
-    put_decimal(out, at, co2e)
-}
-
-pub fn put_total(out: &mut [u8], at: usize, account: Account) -> usize
-    requires { ⌜ Kept account ⌝ }
-    ensures { λ r. ⌜ (r ≡ placeAfter (now (out .entry)) at (totalLine account)) × (now (out .exit) ≡ placed (now (out .entry)) at (totalLine account)) ⌝ }
-{
-    let sums = account.sums();
-    let co2e = account.co2e();
-    if LONGEST <= room(out, at) {
-        let at = put_text(out, at, b"total ");
-        let at = put_sums(out, at, sums, co2e);
-        put_text(out, at, b"\n")
-    } else {
-        at
-    }
-}
-
-// Whether the year is open, or the tonnes that it closed with.
-fn put_standing(out: &mut [u8], at: usize, closed: Closed) -> usize
-    requires { ⌜ at + 28 ≤ length (now out) ⌝ }
-    ensures { λ r. ⌜ PutFrom (now (out .entry)) at (standing closed) (now (out .exit)) r ⌝ }
-    ensures within { λ r. ⌜ r ≤ at + 28 ⌝ }
-{
-    match closed {
-        Closed::Tonnes(tonnes) => {
-            let at = put_text(out, at, b" tonnes ");
-            put_decimal(out, at, tonnes)
-        }
-        Closed::Refused(_) => put_text(out, at, b" open"),
-    }
-}
-
-pub fn put_year(out: &mut [u8], at: usize, account: Account) -> usize
-    requires { ⌜ Kept account ⌝ }
-    ensures { λ r. ⌜ (r ≡ placeAfter (now (out .entry)) at (yearLine account)) × (now (out .exit) ≡ placed (now (out .entry)) at (yearLine account)) ⌝ }
-{
-    let site = account.site();
-    let closed = account.close();
-    if LONGEST <= room(out, at) {
-        let at = put_text(out, at, b"year ");
-        let at = put_decimal(out, at, site.year as u64);
-        let at = put_standing(out, at, closed);
-        put_text(out, at, b"\n")
     } else {
         at
     }

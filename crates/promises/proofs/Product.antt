@@ -19,6 +19,7 @@ use Rattle.history.proofs.Year.{equation-15}
 use Rattle.worked.proofs.Holds.{table-holds}
 use Rattle.text.proofs.ReadsBack.{reads-back}
 use Rattle.lines.proofs.NoneCut.{none-cut}
+use Rattle.sheet.proofs.Uncut.{sheet-uncut}
 use Rattle.report.proofs.Pieces.{in-pieces}
 use Rattle.promises.specs.Outcomes.{OneOutcomeOfCalls}
 use Rattle.promises.specs.Product.{Product}
@@ -57,7 +58,7 @@ product = record {
   round-trips = (site-reads-back, site-writes-back, minute-reads-back, minute-writes-back);
   examples = table-holds;
   chart-points = lossless;
-  printed = (none-cut, reads-back, in-pieces);
+  printed = (none-cut, sheet-uncut, reads-back, in-pieces);
   program = reports-are-given;
   demand-three = (demand-three, demand-three-by-seven, no-slack);
   equation-15 = equation-15;

@@ -13,8 +13,8 @@ pub fn put_ending(out: &mut [u8], account: Account) -> usize
     requires { ⌜ length (now out) ≡ 65536 ⌝ }
     ensures { λ r. ⌜ (r ≡ length (ending account)) × (now (out .exit) ≡ put (now (out .entry)) 0 (ending account)) ⌝ }
 {
-    let total = lines::put_total(out, 0, account);
-    lines::put_year(out, total, account)
+    let total = sheet::put_total(out, 0, account);
+    sheet::put_year(out, total, account)
 }
 
 pub fn put_refused_site(out: &mut [u8], refusal: Refusal) -> usize

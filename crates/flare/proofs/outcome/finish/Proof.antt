@@ -1,8 +1,8 @@
 use native.Mathlib.Omega.{arith}
 use borrow.Author.Needs.{needs}
 use lib.ListN.{length-append}
-use Rattle.lines.specs.Lines.{totalLine, yearLine}
-use Rattle.lines.proofs.NoneCut.{none-cut}
+use Rattle.sheet.specs.Sheet.{totalLine, yearLine}
+use Rattle.sheet.proofs.Uncut.{sheet-uncut}
 use Rattle.flare.proofs.outcome.finish.Statement.{statement}
 use Rattle.flare.proofs.outcome.finish.Tie as tie
 
@@ -10,7 +10,7 @@ print-requires : tie.Need-print-requires
 print-requires c κs =
     let put = c .before .before .before .put-ending in
     let a = c .before .before .before .before .before .before .args .account in
-    omega (arith, put .ensures .0, put .kept .0, length-append (totalLine a) (yearLine a), none-cut .total a, none-cut .year a)
+    omega (arith, put .ensures .0, put .kept .0, length-append (totalLine a) (yearLine a), sheet-uncut .total a, sheet-uncut .year a)
 
 returns : tie.Need-returns
 returns c = c .before .before .before .before .put-ending .ensures .1

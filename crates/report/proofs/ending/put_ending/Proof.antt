@@ -1,7 +1,7 @@
 use native.Mathlib.Omega.{arith}
 use borrow.Author.Needs.{needs}
 use Rattle.text.proofs.Putting.{onward}
-use Rattle.lines.proofs.NoneCut.{none-cut}
+use Rattle.sheet.proofs.Uncut.{sheet-uncut}
 use Rattle.report.proofs.Placed.{whole, at-start}
 use Rattle.report.proofs.ending.put_ending.Statement.{statement}
 use Rattle.report.proofs.ending.put_ending.Tie as tie
@@ -10,7 +10,7 @@ returns : tie.Need-returns
 returns c =
     let year = c .before .before .put-year in
     let total = c .before .before .before .before .before .before .put-total in
-    let short = none-cut .total (c .before .before .before .before .before .before .before .before .before .args .account) in
+    let short = sheet-uncut .total (c .before .before .before .before .before .before .before .before .before .args .account) in
     let first = whole (omega arith) (total .ensures) in
     let then = whole (omega (arith, short, first .place, total .kept .0)) (year .ensures) in
     at-start (onward first then)

@@ -1,10 +1,10 @@
 use borrow.Author.Needs.{needs}
 use native.Mathlib.Omega.{arith}
 use Rattle.text.proofs.Putting.{onward}
-use Rattle.lines.specs.Lines.{totalLine}
+use Rattle.sheet.specs.Sheet.{totalLine}
 use Rattle.lines.proofs.Placing.{there, nowhere}
-use Rattle.lines.proofs.put_total.Statement.{statement}
-use Rattle.lines.proofs.put_total.Tie as tie
+use Rattle.sheet.proofs.put_total.Statement.{statement}
+use Rattle.sheet.proofs.put_total.Tie as tie
 
 returns : tie.Need-returns
 unfolding totalLine

@@ -1,9 +1,9 @@
 use borrow.Author.Needs.{needs}
 use native.Mathlib.Omega.{arith}
 use Rattle.text.proofs.Putting.{onward}
-use Rattle.lines.specs.Lines.{sumsText}
-use Rattle.lines.proofs.put_sums.Statement.{statement}
-use Rattle.lines.proofs.put_sums.Tie as tie
+use Rattle.sheet.specs.Sheet.{sumsText}
+use Rattle.sheet.proofs.put_sums.Statement.{statement}
+use Rattle.sheet.proofs.put_sums.Tie as tie
 
 returns : tie.Need-returns
 unfolding sumsText

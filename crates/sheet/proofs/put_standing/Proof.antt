@@ -1,9 +1,9 @@
 use borrow.Author.Needs.{needs}
 use native.Mathlib.Omega.{arith}
 use Rattle.text.proofs.Putting.{onward}
-use Rattle.lines.specs.Lines.{standing}
-use Rattle.lines.proofs.put_standing.Statement.{statement}
-use Rattle.lines.proofs.put_standing.Tie as tie
+use Rattle.sheet.specs.Sheet.{standing}
+use Rattle.sheet.proofs.put_standing.Statement.{statement}
+use Rattle.sheet.proofs.put_standing.Tie as tie
 
 returns : tie.Need-returns
 unfolding standing
