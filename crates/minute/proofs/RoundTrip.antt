@@ -21,7 +21,7 @@ use Rattle.refusals.specs.declared.verdict.Verdict.the-variants.{Fine}
 use Rattle.refusals.proofs.Tables.{none}
 use Rattle.records.proofs.RoundTrip.{Sound, reads-back, writes-back}
 use Rattle.minute.specs.Rules.{temperaturePresent, minuteLines, aloneLines}
-use Rattle.minute.specs.Record.{minuteLayout, minute, minuteOf, minuteBytes, readMinute, writeMinute}
+use Rattle.minute.specs.Record.{minuteLayout, minute, minuteForm, minuteOf, minuteBytes, readMinute, writeMinute}
 use Rattle.minute.specs.Promises.{minuteKind}
 use Rattle.minute.specs.declared.Minute.{Minute}
 use Rattle.minute.specs.declared.MinuteRead.the-variants.{Fields, Refused}
@@ -51,7 +51,7 @@ held : (b : List ℕ) → AreBytes b → Holds minuteLayout (minuteOf b) b
 held b h =
     (refl, (refl, (unsigned-signed b h 8, (refl, (refl, (refl, (refl, (refl, (refl, (refl, (refl, (refl, (refl, (refl, tt))))))))))))))
 
-sound : Sound 54 1 minuteLayout minute aloneLines Fields Refused
+sound : Sound minuteForm aloneLines Fields Refused
 sound = record {
   gap = refl;
   same = same;
@@ -62,8 +62,8 @@ sound = record {
 
 pub minute-reads-back : ReadsBack minuteKind
 unfolding minuteBytes readMinute writeMinute
-minute-reads-back = reads-back 54 1 minuteLayout minute aloneLines Fields Refused sound
+minute-reads-back = reads-back minuteForm aloneLines Fields Refused sound
 
 pub minute-writes-back : WritesBack minuteKind
 unfolding minuteBytes readMinute writeMinute
-minute-writes-back = writes-back 54 1 minuteLayout minute aloneLines Fields Refused sound
+minute-writes-back = writes-back minuteForm aloneLines Fields Refused sound

@@ -2,9 +2,9 @@
 use Prim.Native.Nat.{ℕ}
 use mathlib.Core.List.{List, [], _∷_, _++_}
 use Rattle.exact.specs.Bytes.{signed, unsigned}
-use Rattle.exact.specs.Layout.{Layout, bytes, laid, Maker, readBy}
-use Rattle.refusals.specs.Tables.{firstOf}
-use Rattle.records.specs.House.{houseForm, headLines, bufferLines, answered}
+use Rattle.exact.specs.Layout.{Layout, bytes, Maker}
+use Rattle.refusals.specs.Tables.{Line, firstOf}
+use Rattle.records.specs.House.{Form, bytesBy, fieldsBy, headLines, bufferLines, answered}
 use Rattle.refusals.specs.declared.verdict.Verdict.{Verdict}
 use Rattle.minute.specs.Rules.{aloneLines}
 use Rattle.minute.specs.declared.Minute.{Minute}
@@ -41,18 +41,26 @@ minute number flags temperature litres ch4 co co2 o2 h2 h2s nh3 n2 oxygen methan
   exhaust = record { oxygen = oxygen; methane = methane };
 }
 
+-- R9: the minute record, version 1
+abbrev pub minuteForm : Form Minute
+minuteForm = record { size = 54; version = 1; layout = minuteLayout; make = minute }
+
 -- R9: the fields of a record's bytes
 abbrev pub minuteOf : List ℕ → Minute
-minuteOf b = readBy minuteLayout minute b
+minuteOf b = fieldsBy minuteForm b
 
 -- R7, R9: the bytes of a record's fields
 unfoldable pub minuteBytes : Minute → List ℕ
-minuteBytes n = houseForm 54 1 (laid minuteLayout n)
+minuteBytes n = bytesBy minuteForm n
+
+-- R51: 1 and 2, of a record's bytes
+abbrev pub minuteHeadLines : List ℕ → List Line
+minuteHeadLines b = headLines (minuteForm .size) (minuteForm .version) b
 
 -- R61: "Reading a minute alone, without a site, gives 1, 2, 12, 13 in that sense, 14 to 18"
 unfoldable pub readMinute : List ℕ → MinuteRead
-readMinute b = answered Fields Refused (minuteOf b) (firstOf (headLines 54 1 b ++ aloneLines (minuteOf b)))
+readMinute b = answered Fields Refused (minuteOf b) (firstOf (minuteHeadLines b ++ aloneLines (minuteOf b)))
 
 -- R60: "Writing takes fields and a .. 54-byte buffer: 22, then the same field refusals"
 unfoldable pub writeMinute : Minute → List ℕ → Verdict
-writeMinute n out = firstOf (bufferLines 54 out ++ aloneLines n)
+writeMinute n out = firstOf (bufferLines (minuteForm .size) out ++ aloneLines n)

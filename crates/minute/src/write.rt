@@ -3,7 +3,7 @@ ghost use mathlib.Core.Path.{_≡_};
 ghost use lib.ListN.{length, take, drop};
 ghost use Rattle.exact.specs.scaffold.Filled.{filled};
 ghost use Rattle.records.specs.House.{written};
-ghost use Rattle.minute.specs.Record.{minuteLayout, minuteBytes, writeMinute};
+ghost use Rattle.minute.specs.Record.{minuteLayout, minuteForm, minuteBytes, writeMinute};
 use crate::Minute;
 use refusals::Refusal;
 use refusals::Verdict;
@@ -26,7 +26,7 @@ impl Minute {
     }
 
     fn fill(self, out: &mut [u8])
-        requires { ⌜ length (now out) ≡ 54 ⌝ }
+        requires { ⌜ length (now out) ≡ minuteForm .size ⌝ }
         ensures { λ _. ⌜ now (out .exit) ≡ minuteBytes self ⌝ }
     {
         records::put_head(out, (Minute::BYTES - 2) as u16, Minute::VERSION);

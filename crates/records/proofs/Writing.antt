@@ -8,25 +8,26 @@ use borrow.Author.Tests.{eqb-true, not-false}
 use lib.Dec.{eqb}
 use lib.ListN.{length}
 use Rattle.exact.specs.Bytes.{bytesOf, put}
-use Rattle.exact.specs.Layout.{Layout, laid, gapless}
+use Rattle.exact.specs.Layout.{gapless}
 use Rattle.exact.specs.scaffold.Filled.{filled}
 use Rattle.exact.proofs.Layouts.{within, filled-laid}
 use Rattle.refusals.specs.Tables.{Line, firstOf, also, followedBy}
-use Rattle.records.specs.House.{houseForm, bufferLines}
+use Rattle.records.specs.House.{Form, bytesBy, bufferLines}
 use Rattle.refusals.specs.declared.refusal.Refusal.the-variants.{Buffer}
 use Rattle.refusals.specs.declared.verdict.Verdict.{Verdict}
 use Rattle.refusals.specs.declared.verdict.Verdict.the-variants.{Fine}
 use Rattle.refusals.proofs.Tables.{chained, followed, split, none}
 
-module _ {S : Type 0} (n version : ℕ) (layout : Layout S) (s : S) where
-  pub filled-record : (b : List ℕ) → gapless 3 layout n ≡ true → length b ≡ n
-      → filled layout s (put (put b 0 (bytesOf 2 (n - 2))) 2 (version ∷ [])) ≡ houseForm n version (laid layout s)
+-- the head and then each field put into a buffer of the form's size
+module _ {S : Type 0} (form : Form S) (s : S) where
+  pub filled-record : (b : List ℕ) → gapless 3 (form .layout) (form .size) ≡ true → length b ≡ form .size
+      → filled (form .layout) s (put (put b 0 (bytesOf 2 (form .size - 2))) 2 (form .version ∷ [])) ≡ bytesBy form s
   unfolding put
-  filled-record [] g e = absurd (omega (arith, within 3 layout n g))
-  filled-record (x ∷ []) g e = absurd (omega (arith, within 3 layout n g))
-  filled-record (x ∷ y ∷ []) g e = absurd (omega (arith, within 3 layout n g))
+  filled-record [] g e = absurd (omega (arith, within 3 (form .layout) (form .size) g))
+  filled-record (x ∷ []) g e = absurd (omega (arith, within 3 (form .layout) (form .size) g))
+  filled-record (x ∷ y ∷ []) g e = absurd (omega (arith, within 3 (form .layout) (form .size) g))
   filled-record (x ∷ y ∷ z ∷ rest) g e =
-      filled-laid layout s ((n - 2) / 256 ∷ (n - 2) % 256 ∷ version ∷ []) rest n g (omega arith)
+      filled-laid (form .layout) s ((form .size - 2) / 256 ∷ (form .size - 2) % 256 ∷ form .version ∷ []) rest (form .size) g (omega arith)
 
 -- the buffer's verdict and then the fields' are the table's
 pub by-buffer : (n : ℕ) (out : List ℕ) (lines : List Line) {buffer fields verdict : Verdict}

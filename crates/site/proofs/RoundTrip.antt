@@ -20,7 +20,7 @@ use Rattle.refusals.specs.declared.verdict.Verdict.the-variants.{Fine}
 use Rattle.refusals.proofs.Tables.{none}
 use Rattle.records.proofs.RoundTrip.{Sound, reads-back, writes-back}
 use Rattle.site.specs.Rules.{siteLines, temperaturesWrong, flowsWrong}
-use Rattle.site.specs.Record.{siteLayout, site, siteOf, siteBytes, readSite, writeSite}
+use Rattle.site.specs.Record.{siteLayout, site, siteForm, siteOf, siteBytes, readSite, writeSite}
 use Rattle.site.specs.Promises.{siteKind}
 use Rattle.site.specs.declared.Site.{Site}
 use Rattle.site.specs.declared.Temperatures.{Temperatures}
@@ -58,7 +58,7 @@ same s ok =
 held : (b : List ℕ) → AreBytes b → Holds siteLayout (siteOf b) b
 held b h = (refl, (refl, (refl, (refl, (refl, (unsigned-signed b h 16, (unsigned-signed b h 18, (refl, (refl, (refl, tt))))))))))
 
-sound : Sound 30 1 siteLayout site siteLines Fields Refused
+sound : Sound siteForm siteLines Fields Refused
 sound = record {
   gap = refl;
   same = same;
@@ -69,8 +69,8 @@ sound = record {
 
 pub site-reads-back : ReadsBack siteKind
 unfolding siteBytes readSite writeSite
-site-reads-back = reads-back 30 1 siteLayout site siteLines Fields Refused sound
+site-reads-back = reads-back siteForm siteLines Fields Refused sound
 
 pub site-writes-back : WritesBack siteKind
 unfolding siteBytes readSite writeSite
-site-writes-back = writes-back 30 1 siteLayout site siteLines Fields Refused sound
+site-writes-back = writes-back siteForm siteLines Fields Refused sound

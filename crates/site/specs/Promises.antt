@@ -1,16 +1,16 @@
 -- R85: the site record as a kind of record, for both round trips.
 use Rattle.records.specs.RoundTrip.{Kind}
-use Rattle.site.specs.Record.{siteBytes, readSite, writeSite}
+use Rattle.site.specs.Record.{siteForm, siteBytes, readSite, writeSite}
 use Rattle.site.specs.declared.Site.{Site}
 use Rattle.site.specs.declared.SiteRead.{SiteRead}
 use Rattle.site.specs.declared.SiteRead.the-variants.{Fields as Accepted}
 
--- R8, R85: 30 bytes, with the calls that read and write them
+-- R8, R85: its size, and the calls that read and write it
 abbrev pub siteKind : Kind
 siteKind = record {
   Fields = Site;
   Answer = SiteRead;
-  size = 30;
+  size = siteForm .size;
   accepted = Accepted;
   image = siteBytes;
   write = writeSite;

@@ -2,9 +2,9 @@
 use Prim.Native.Nat.{ℕ}
 use mathlib.Core.List.{List, [], _∷_, _++_}
 use Rattle.exact.specs.Bytes.{signed, unsigned}
-use Rattle.exact.specs.Layout.{Layout, bytes, laid, Maker, readBy}
-use Rattle.refusals.specs.Tables.{firstOf}
-use Rattle.records.specs.House.{houseForm, headLines, bufferLines, answered}
+use Rattle.exact.specs.Layout.{Layout, bytes, Maker}
+use Rattle.refusals.specs.Tables.{Line, firstOf}
+use Rattle.records.specs.House.{Form, bytesBy, fieldsBy, headLines, bufferLines, answered}
 use Rattle.refusals.specs.declared.verdict.Verdict.{Verdict}
 use Rattle.site.specs.Rules.{siteLines}
 use Rattle.site.specs.declared.Site.{Site}
@@ -39,18 +39,26 @@ site method year gwp height diameter coldest hottest least most days = record {
   days = days;
 }
 
+-- R8: the site record, version 1
+abbrev pub siteForm : Form Site
+siteForm = record { size = 30; version = 1; layout = siteLayout; make = site }
+
 -- R8: the fields of a record's bytes
 abbrev pub siteOf : List ℕ → Site
-siteOf b = readBy siteLayout site b
+siteOf b = fieldsBy siteForm b
 
 -- R7, R8: the bytes of a record's fields
 unfoldable pub siteBytes : Site → List ℕ
-siteBytes s = houseForm 30 1 (laid siteLayout s)
+siteBytes s = bytesBy siteForm s
+
+-- R51: 1 and 2, of a record's bytes
+abbrev pub siteHeadLines : List ℕ → List Line
+siteHeadLines b = headLines (siteForm .size) (siteForm .version) b
 
 -- R52: "Site: 1 to 9"
 unfoldable pub readSite : List ℕ → SiteRead
-readSite b = answered Fields Refused (siteOf b) (firstOf (headLines 30 1 b ++ siteLines (siteOf b)))
+readSite b = answered Fields Refused (siteOf b) (firstOf (siteHeadLines b ++ siteLines (siteOf b)))
 
 -- R60: "Writing takes fields and a 30- .. byte buffer: 22, then the same field refusals (for a site 3 to 9 ..)"
 unfoldable pub writeSite : Site → List ℕ → Verdict
-writeSite s out = firstOf (bufferLines 30 out ++ siteLines s)
+writeSite s out = firstOf (bufferLines (siteForm .size) out ++ siteLines s)

@@ -3,7 +3,7 @@ ghost use mathlib.Core.Path.{_≡_};
 ghost use lib.ListN.{length, take, drop};
 ghost use Rattle.exact.specs.scaffold.Filled.{filled};
 ghost use Rattle.records.specs.House.{written};
-ghost use Rattle.site.specs.Record.{siteLayout, siteBytes, writeSite};
+ghost use Rattle.site.specs.Record.{siteLayout, siteForm, siteBytes, writeSite};
 use crate::Site;
 use refusals::Refusal;
 use refusals::Verdict;
@@ -26,7 +26,7 @@ impl Site {
     }
 
     fn fill(self, out: &mut [u8])
-        requires { ⌜ length (now out) ≡ 30 ⌝ }
+        requires { ⌜ length (now out) ≡ siteForm .size ⌝ }
         ensures { λ _. ⌜ now (out .exit) ≡ siteBytes self ⌝ }
     {
         records::put_head(out, (Site::BYTES - 2) as u16, Site::VERSION);

@@ -3,7 +3,7 @@ use mir.ValLaws.{toZ-ofZ}
 use mir.Syntax.{w16}
 use denote.Ref.{now}
 use Rattle.records.proofs.Writing.{filled-record}
-use Rattle.minute.specs.Record.{minuteLayout, minuteBytes}
+use Rattle.minute.specs.Record.{minuteForm, minuteBytes}
 use borrow.Author.Needs.{needs, sfits-of}
 use Rattle.minute.proofs.Minute.fill.Statement.{statement}
 use Rattle.minute.proofs.Minute.fill.Tie as tie
@@ -31,7 +31,7 @@ returns c =
       p2 .put-u32 .ensures,
       p1 .put-head .ensures,
     )
-    (filled-record 54 1 minuteLayout s (now (a .args .out)) refl (a .pre))
+    (filled-record minuteForm s (now (a .args .out)) refl (a .pre))
 
 pub fill-spec : {M : Type 1} → statement M
 fill-spec =

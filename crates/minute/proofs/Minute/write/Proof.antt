@@ -2,7 +2,7 @@ use mathlib.Core.Path.{_≡_, refl, sym, _∙_}
 use denote.Ref.{now}
 use Rattle.records.proofs.Writing.{by-buffer, room}
 use Rattle.minute.specs.Rules.{aloneLines}
-use Rattle.minute.specs.Record.{writeMinute}
+use Rattle.minute.specs.Record.{minuteForm, writeMinute}
 use borrow.Author.Needs.{needs}
 use Rattle.minute.proofs.Minute.write.Statement.{statement}
 use Rattle.minute.proofs.Minute.write.Tie as tie
@@ -12,14 +12,14 @@ decided : (t : tie.After-then) → t .then .result ≡ writeMinute (t .before .b
 unfolding writeMinute
 decided t =
     let a = t .before .before .before .before .args in
-    by-buffer 54 (now (a .out)) (aloneLines (a .self)) (t .before .before .also .ensures) (t .before .alone .ensures) (t .then .ensures)
+    by-buffer (minuteForm .size) (now (a .out)) (aloneLines (a .self)) (t .before .before .also .ensures) (t .before .alone .ensures) (t .then .ensures)
 
 fill-requires : tie.Need-fill-requires
 unfolding writeMinute
 fill-requires c κs =
     let t = c .before .before .before in
     let a = t .before .before .before .before .args in
-    room 54 (now (a .out)) (aloneLines (a .self)) (sym (decided t) ∙ c .before .enum-told .given .1)
+    room (minuteForm .size) (now (a .out)) (aloneLines (a .self)) (sym (decided t) ∙ c .before .enum-told .given .1)
 
 returns : tie.Need-returns
 returns c = (sym (c .before .verdict .given .1) ∙ decided (c .before .before .before), refl)

@@ -1,7 +1,7 @@
 use mathlib.Core.Path.{refl}
 use denote.Ref.{now}
 use Rattle.records.proofs.Writing.{filled-record}
-use Rattle.site.specs.Record.{siteLayout, siteBytes}
+use Rattle.site.specs.Record.{siteForm, siteBytes}
 use borrow.Author.Needs.{needs}
 use Rattle.site.proofs.Site.fill.Statement.{statement}
 use Rattle.site.proofs.Site.fill.Tie as tie
@@ -29,7 +29,7 @@ returns c =
       p2 .put-byte .ensures,
       p1 .put-head .ensures,
     )
-    (filled-record 30 1 siteLayout s (now (a .args .out)) refl (a .pre))
+    (filled-record siteForm s (now (a .args .out)) refl (a .pre))
 
 pub fill-spec : {M : Type 1} → statement M
 fill-spec =

@@ -1,10 +1,10 @@
 use mathlib.Core.Path.{_≡_, sym, _∙_}
 use denote.Ref.{now}
-use Rattle.records.specs.House.{headLines, answered}
+use Rattle.records.specs.House.{answered}
 use Rattle.refusals.specs.declared.verdict.Verdict.{Verdict}
 use Rattle.records.proofs.Reading.{by-head, by-fields}
 use Rattle.site.specs.Rules.{siteLines}
-use Rattle.site.specs.Record.{siteOf, readSite}
+use Rattle.site.specs.Record.{siteOf, siteHeadLines, readSite}
 use Rattle.site.specs.declared.SiteRead.the-variants.{Fields, Refused}
 use borrow.Author.Needs.{needs}
 use Rattle.site.proofs.Site.read.Statement.{statement}
@@ -16,7 +16,7 @@ unfolding readSite
 came v {w} e =
     let t = v .before .before in
     let b = now (t .before .before .before .before .args .bytes) in
-    by-fields Fields Refused siteLines (siteOf b) (headLines 30 1 b) (v .before .fields-in .result) w
+    by-fields Fields Refused siteLines (siteOf b) (siteHeadLines b) (v .before .fields-in .result) w
     (sym (t .before .before .head .ensures) ∙ t .enum-told .given .1)
     (v .before .fields-in .ensures)
     (sym e ∙ v .verdict .ensures)
@@ -26,7 +26,7 @@ unfolding readSite
 returns c =
     let h = c .before .before .before in
     let b = now (h .before .before .args .bytes) in
-    by-head Fields Refused siteLines (siteOf b) (headLines 30 1 b) (sym (h .head .ensures) ∙ c .before .r .given .1)
+    by-head Fields Refused siteLines (siteOf b) (siteHeadLines b) (sym (h .head .ensures) ∙ c .before .r .given .1)
 
 returns-2 : tie.Need-returns-2
 returns-2 c = came (c .before .before) (c .enum-told2 .given .1)

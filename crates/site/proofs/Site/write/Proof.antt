@@ -2,7 +2,7 @@ use mathlib.Core.Path.{_≡_, refl, sym, _∙_}
 use denote.Ref.{now}
 use Rattle.records.proofs.Writing.{by-buffer, room}
 use Rattle.site.specs.Rules.{siteLines}
-use Rattle.site.specs.Record.{writeSite}
+use Rattle.site.specs.Record.{siteForm, writeSite}
 use borrow.Author.Needs.{needs}
 use Rattle.site.proofs.Site.write.Statement.{statement}
 use Rattle.site.proofs.Site.write.Tie as tie
@@ -12,14 +12,14 @@ decided : (t : tie.After-then) → t .then .result ≡ writeSite (t .before .bef
 unfolding writeSite
 decided t =
     let a = t .before .before .before .before .args in
-    by-buffer 30 (now (a .out)) (siteLines (a .self)) (t .before .before .also .ensures) (t .before .verdict .ensures) (t .then .ensures)
+    by-buffer (siteForm .size) (now (a .out)) (siteLines (a .self)) (t .before .before .also .ensures) (t .before .verdict .ensures) (t .then .ensures)
 
 fill-requires : tie.Need-fill-requires
 unfolding writeSite
 fill-requires c κs =
     let t = c .before .before .before in
     let a = t .before .before .before .before .args in
-    room 30 (now (a .out)) (siteLines (a .self)) (sym (decided t) ∙ c .before .enum-told .given .1)
+    room (siteForm .size) (now (a .out)) (siteLines (a .self)) (sym (decided t) ∙ c .before .enum-told .given .1)
 
 returns : tie.Need-returns
 returns c = (sym (c .before .verdict2 .given .1) ∙ decided (c .before .before .before), refl)
