@@ -8,11 +8,11 @@ use Rattle.refusals.specs.declared.refusal.Refusal.{Refusal}
 use Rattle.refusals.specs.declared.verdict.Verdict.{Verdict}
 use Rattle.refusals.specs.declared.verdict.Verdict.the-variants.{Fine, Refuse}
 use Rattle.refusals.proofs.Tables.{joined, split}
-use Rattle.records.specs.House.{headLines, bufferLines, written, answered}
-use Rattle.site.specs.Record.{siteOf}
+use Rattle.records.specs.House.{bufferLines, written, answered}
+use Rattle.site.specs.Record.{siteOf, siteHeadLines}
 use Rattle.site.specs.Rules.{siteLines, Examined}
 use Rattle.site.specs.declared.Site.{Site}
-use Rattle.minute.specs.Record.{minuteOf}
+use Rattle.minute.specs.Record.{minuteOf, minuteHeadLines}
 use Rattle.minute.specs.Rules.{minuteLines}
 use Rattle.minute.specs.declared.Minute.{Minute}
 use Rattle.tool06.specs.Judged.{beyondYear, oxygenLines, judged}
@@ -30,7 +30,7 @@ begun t u w e = rw (joined (t ++ u) w, joined t u, e)
 -- 22, 1 to 9, and the minute's 1 and 2
 abbrev pub recordLines : List ℕ → List ℕ → List ℕ → List Line
 recordLines site minute answer =
-    bufferLines 25 answer ++ headLines 30 1 site ++ siteLines (siteOf site) ++ headLines 54 1 minute
+    bufferLines 25 answer ++ siteHeadLines site ++ siteLines (siteOf site) ++ minuteHeadLines minute
 
 -- what the call returns, and what the answer buffer then holds, by what the minute is judged
 abbrev pub code : Judged → ℕ
@@ -71,8 +71,8 @@ module _ (site minute : List ℕ) (days : ℕ) (answer : List ℕ) where
 
   pub examined : firstOf (recordLines site minute answer) ≡ Fine → Examined s
   examined e =
-      let head = bufferLines 25 answer ++ headLines 30 1 site in
-      split head (siteLines s) (split (head ++ siteLines s) (headLines 54 1 minute) e .0) .1
+      let head = bufferLines 25 answer ++ siteHeadLines site in
+      split head (siteLines s) (split (head ++ siteLines s) (minuteHeadLines minute) e .0) .1
 
   pub judged-as : firstOf (recordLines site minute answer) ≡ Fine → (m : Masses) → judged m (beyondYear s n) s n (sinceInTime s days) ≡ judgedAs m
   unfolding judged singleFigures

@@ -8,11 +8,11 @@ use Rattle.refusals.specs.Refusals.{numberOf}
 use Rattle.refusals.specs.Tables.{Line, firstOf}
 use Rattle.refusals.specs.declared.verdict.Verdict.{Verdict}
 use Rattle.refusals.specs.declared.verdict.Verdict.the-variants.{Fine, Refuse}
-use Rattle.records.specs.House.{headLines, bufferLines, written}
-use Rattle.site.specs.Record.{siteOf}
+use Rattle.records.specs.House.{bufferLines, written}
+use Rattle.site.specs.Record.{siteOf, siteHeadLines}
 use Rattle.site.specs.Rules.{siteLines}
 use Rattle.site.specs.declared.Site.{Site}
-use Rattle.minute.specs.Record.{minuteOf}
+use Rattle.minute.specs.Record.{minuteOf, minuteHeadLines}
 use Rattle.minute.specs.Rules.{minuteLines}
 use Rattle.tool06.specs.Figures.{figures}
 use Rattle.tool06.specs.Judged.{beyondYear, oxygenLines}
@@ -40,9 +40,9 @@ sinceInTime s days = not (eqb days 65535) && leb days (s .days)
 unfoldable pub singleLines : List ℕ → List ℕ → List ℕ → List Line
 singleLines site minute answer =
     bufferLines 25 answer
-    ++ headLines 30 1 site
+    ++ siteHeadLines site
     ++ siteLines (siteOf site)
-    ++ headLines 54 1 minute
+    ++ minuteHeadLines minute
     ++ minuteLines (beyondYear (siteOf site) (minuteOf minute)) (minuteOf minute)
     ++ oxygenLines (siteOf site) (minuteOf minute)
 

@@ -4,11 +4,12 @@ use denote.Ref.{now}
 use Rattle.refusals.specs.Tables.{firstOf}
 use Rattle.refusals.specs.declared.verdict.Verdict.the-variants.{Fine}
 use Rattle.refusals.proofs.Tables.{followed}
-use Rattle.records.specs.House.{headLines, bufferLines}
+use Rattle.records.specs.House.{bufferLines}
 use Rattle.records.proofs.Writing.{by-buffer, room}
-use Rattle.site.specs.Record.{siteOf}
+use Rattle.site.specs.Record.{siteOf, siteHeadLines}
 use Rattle.site.specs.Rules.{siteLines}
 use Rattle.site.specs.declared.Site.{Site}
+use Rattle.minute.specs.Record.{minuteHeadLines}
 use Rattle.tool06.specs.Tool.{Masses, Positive}
 use Rattle.tool06.specs.declared.figures.Judged.the-variants.{Accepted, Refused}
 use Rattle.host.proofs.Outcome.{recordLines, judgedAs, refused-as, examined, judged-as, outcome}
@@ -25,10 +26,10 @@ decided t =
     let f = p .before .before .before .before in
     let a = f .before .before .before .before .args in
     let buffer = bufferLines 25 (now (a .answer)) in
-    let head = headLines 30 1 (now (a .site)) in
+    let head = siteHeadLines (now (a .site)) in
     let fields = siteLines (siteOf (now (a .site))) in
     let examined = t .before .before .verdict .ensures ∙ ap (λ (s : Site). firstOf (siteLines s)) (f .fields-in .ensures) in
-    followed (buffer ++ head ++ fields) (headLines 54 1 (now (a .minute)))
+    followed (buffer ++ head ++ fields) (minuteHeadLines (now (a .minute)))
     (followed (buffer ++ head) fields
     (by-buffer 25 (now (a .answer)) head (p .before .before .before .also .ensures) (p .before .before .head .ensures) (p .then .ensures))
     examined (t .before .then2 .ensures))
@@ -66,7 +67,7 @@ fill-requires : tie.Need-fill-requires
 fill-requires c κs =
     let e = c .before .before .before .before .before .before .before in
     let a = e .before .before .before .before .before .before .before .before .before .before .before .before .before .args in
-    room 25 (now (a .answer)) (headLines 30 1 (now (a .site)) ++ siteLines (siteOf (now (a .site))) ++ headLines 54 1 (now (a .minute))) (fine e)
+    room 25 (now (a .answer)) (siteHeadLines (now (a .site)) ++ siteLines (siteOf (now (a .site))) ++ minuteHeadLines (now (a .minute))) (fine e)
 
 returns : tie.Need-returns
 returns c =
