@@ -6,9 +6,9 @@ use lib.Dec.{leb, eqb}
 use lib.ListN.{getD, set}
 use Rattle.refusals.specs.Tables.{Line, when, firstOf}
 use Rattle.refusals.specs.declared.refusal.Refusal.the-variants.{Full}
-use Rattle.records.specs.House.{headLines, answered}
+use Rattle.records.specs.House.{answered}
 use Rattle.site.specs.Rules.{yearMinutes}
-use Rattle.minute.specs.Record.{minuteOf}
+use Rattle.minute.specs.Record.{minuteOf, minuteHeadLines}
 use Rattle.minute.specs.declared.Minute.{Minute}
 use Rattle.maintenance.specs.Days.{inTime, listedDays}
 use Rattle.sums.specs.Sums.{_⊞_, oneIf}
@@ -40,7 +40,7 @@ entry a b = record { site = a .site; minute = minuteOf b; inTime = inTimeAt a (m
 
 -- R55: 11, then 1 and 2
 abbrev pub recordLines : Account → List ℕ → List Line
-recordLines a b = when (isFull a) Full ∷ headLines 54 1 b
+recordLines a b = when (isFull a) Full ∷ minuteHeadLines b
 
 -- R55: then 12 to 19
 unfoldable pub addLines : Account → List ℕ → List Line

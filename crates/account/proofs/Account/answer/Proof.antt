@@ -7,8 +7,7 @@ use Rattle.refusals.specs.declared.refusal.Refusal.{Refusal}
 use Rattle.refusals.specs.declared.refusal.Refusal.the-variants.{Full}
 use Rattle.refusals.specs.declared.verdict.Verdict.the-variants.{Fine}
 use Rattle.records.proofs.Reading.{by-head, by-fields}
-use Rattle.records.specs.House.{headLines}
-use Rattle.minute.specs.Record.{minuteOf}
+use Rattle.minute.specs.Record.{minuteOf, minuteHeadLines}
 use Rattle.tool06.specs.Bounds.{figuresOf}
 use Rattle.tool06.specs.Judged.{judged, judgedLines}
 use Rattle.tool06.specs.declared.figures.Judged.the-variants.{Accepted, Refused}
@@ -27,7 +26,7 @@ decided : (v : tie.After-then) → let a = v .before .before .before .before .be
 decided v =
     let a = v .before .before .before .before .before .args in
     rw (v .then .ensures, v .before .also .ensures, v .before .before .is-full .ensures, v .before .before .before .head .ensures)
-    (led (isFull (a .self)) Full (headLines 54 1 (a .bytes .now)))
+    (led (isFull (a .self)) Full (minuteHeadLines (a .bytes .now)))
 
 judge-requires : tie.Need-judge-requires
 judge-requires c κs = site-examined (c .before .before .before .before .before .before .before .before .before .before .before .before .pre)
