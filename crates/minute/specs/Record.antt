@@ -1,6 +1,7 @@
 -- R9: the minute record, 54 bytes.
 use Prim.Native.Nat.{ℕ}
 use mathlib.Core.List.{List, [], _∷_, _++_}
+use lib.ListN.{take, drop}
 use Rattle.exact.specs.Bytes.{signed, unsigned}
 use Rattle.exact.specs.Layout.{Layout, bytes, Maker}
 use Rattle.refusals.specs.Tables.{Line, firstOf}
@@ -64,3 +65,11 @@ readMinute b = answered Fields Refused (minuteOf b) (firstOf (minuteHeadLines b 
 -- R60: "Writing takes fields and a .. 54-byte buffer: 22, then the same field refusals"
 unfoldable pub writeMinute : Minute → List ℕ → Verdict
 writeMinute n out = firstOf (bufferLines (minuteForm .size) out ++ aloneLines n)
+
+-- R62, R68: of records one after the other, the first, which the end may cut short
+abbrev pub firstRecord : List ℕ → List ℕ
+firstRecord run = take (minuteForm .size) run
+
+-- R62, R68: of records one after the other, those after the first
+abbrev pub laterRecords : List ℕ → List ℕ
+laterRecords run = drop (minuteForm .size) run

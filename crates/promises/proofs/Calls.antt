@@ -17,10 +17,10 @@ use Rattle.refusals.specs.declared.refusal.Refusal.the-variants.{Length, Versio
 use Rattle.refusals.specs.declared.verdict.Verdict.{Verdict}
 use Rattle.refusals.specs.declared.verdict.Verdict.the-variants.{Fine, Refuse}
 use Rattle.records.specs.House.{headLines, bufferLines, answered, written}
-use Rattle.site.specs.Record.{siteOf, siteBytes, readSite, writeSite}
+use Rattle.site.specs.Record.{siteOf, siteBytes, readSite, writeSite, siteForm, siteHeadLines}
 use Rattle.site.specs.Rules.{siteLines}
 use Rattle.site.specs.declared.SiteRead.the-variants.{Fields as SiteFields, Refused as SiteRefused}
-use Rattle.minute.specs.Record.{minuteOf, minuteBytes, readMinute, writeMinute}
+use Rattle.minute.specs.Record.{minuteOf, minuteBytes, readMinute, writeMinute, minuteForm, minuteHeadLines}
 use Rattle.minute.specs.Rules.{minuteLines, aloneLines}
 use Rattle.minute.specs.declared.MinuteRead.the-variants.{Fields as MinuteFields, Refused as MinuteRefused}
 use Rattle.tool06.specs.Bounds.{figuresOf}
@@ -57,11 +57,11 @@ by-verdict v (when false r ∷ t) = by-verdict v t
 
 reading-a-site : ReadingASite
 unfolding readSite headLines siteLines
-reading-a-site b = record { in-order = refl; decided = by-table SiteFields SiteRefused saidOfSite (siteOf b) refl (λ r. refl) (headLines 30 1 b ++ siteLines (siteOf b)) }
+reading-a-site b = record { in-order = refl; decided = by-table SiteFields SiteRefused saidOfSite (siteOf b) refl (λ r. refl) (siteHeadLines b ++ siteLines (siteOf b)) }
 
 reading-a-minute : ReadingAMinute
 unfolding readMinute headLines minuteLines
-reading-a-minute b = record { in-order = refl; decided = by-table MinuteFields MinuteRefused saidOfMinute (minuteOf b) refl (λ r. refl) (headLines 54 1 b ++ aloneLines (minuteOf b)) }
+reading-a-minute b = record { in-order = refl; decided = by-table MinuteFields MinuteRefused saidOfMinute (minuteOf b) refl (λ r. refl) (minuteHeadLines b ++ aloneLines (minuteOf b)) }
 
 -- a lent buffer holds the values where nothing is refused
 by-written : (own image : List ℕ) (t : List Line) → saidOfVerdict (written own image (firstOf t)) (firstOf t) ≡ decides t image
@@ -71,11 +71,11 @@ by-written own image (when false r ∷ t) = by-written own image t
 
 writing-a-site : WritingASite
 unfolding writeSite siteLines
-writing-a-site s out = record { in-order = refl; decided = by-written out (siteBytes s) (bufferLines 30 out ++ siteLines s) }
+writing-a-site s out = record { in-order = refl; decided = by-written out (siteBytes s) (bufferLines (siteForm .size) out ++ siteLines s) }
 
 writing-a-minute : WritingAMinute
 unfolding writeMinute minuteLines
-writing-a-minute n out = record { in-order = refl; decided = by-written out (minuteBytes n) (bufferLines 54 out ++ aloneLines n) }
+writing-a-minute n out = record { in-order = refl; decided = by-written out (minuteBytes n) (bufferLines (minuteForm .size) out ++ aloneLines n) }
 
 opening-an-account : OpeningAnAccount
 unfolding opened openLines siteLines
@@ -144,7 +144,7 @@ in-turn m a (b ∷ bs) = step a (answer m a b) _ _ (in-turn m (afterAnswer a (an
 
 checking-a-run : CheckingARun
 unfolding checked
-checking-a-run m a run = by-whole (eqb (length run % 54) 0)
+checking-a-run m a run = by-whole (eqb (length run % minuteForm .size) 0)
   where
     by-whole : (whole : Bool) → saidOfChecked (wholeOr whole (firstRefused (addAll m a (recordsOf run)))) ≡ cond whole (firstSaid m a (recordsOf run)) (record { number = 1; values = none })
     by-whole true = in-turn m a (recordsOf run)

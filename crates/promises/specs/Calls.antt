@@ -12,11 +12,11 @@ use Rattle.exact.specs.Bytes.{bytesOf}
 use Rattle.exact.specs.Rounding.{ceilDiv}
 use Rattle.refusals.specs.Tables.{when}
 use Rattle.refusals.specs.declared.refusal.Refusal.the-variants.{Incomplete}
-use Rattle.records.specs.House.{headLines, bufferLines, written}
-use Rattle.site.specs.Record.{siteOf, siteBytes, readSite, writeSite}
+use Rattle.records.specs.House.{bufferLines, written}
+use Rattle.site.specs.Record.{siteOf, siteBytes, readSite, writeSite, siteForm, siteHeadLines}
 use Rattle.site.specs.Rules.{siteLines}
 use Rattle.site.specs.declared.Site.{Site}
-use Rattle.minute.specs.Record.{minuteOf, minuteBytes, readMinute, writeMinute}
+use Rattle.minute.specs.Record.{minuteOf, minuteBytes, readMinute, writeMinute, minuteForm, minuteHeadLines}
 use Rattle.minute.specs.Rules.{aloneLines}
 use Rattle.minute.specs.declared.Minute.{Minute}
 use Rattle.tool06.specs.Bounds.{figuresOf}
@@ -34,24 +34,24 @@ use Rattle.promises.specs.Numbers.{Said, given, saidOfSite, saidOfMinute
 
 -- R52: "Site: 1 to 9."
 abbrev pub ReadingASite : Type 0
-ReadingASite = (b : List ℕ) → By (1 to 9) (headLines 30 1 b ++ siteLines (siteOf b)) (saidOfSite (readSite b)) (siteOf b)
+ReadingASite = (b : List ℕ) → By (1 to 9) (siteHeadLines b ++ siteLines (siteOf b)) (saidOfSite (readSite b)) (siteOf b)
 
 -- R61: "Reading a minute alone .. gives 1, 2, 12, 13 in that sense, 14 to 18."
 abbrev pub ReadingAMinute : Type 0
 ReadingAMinute =
-    (b : List ℕ) → By (1 ∷ 2 ∷ 12 to 18) (headLines 54 1 b ++ aloneLines (minuteOf b)) (saidOfMinute (readMinute b)) (minuteOf b)
+    (b : List ℕ) → By (1 ∷ 2 ∷ 12 to 18) (minuteHeadLines b ++ aloneLines (minuteOf b)) (saidOfMinute (readMinute b)) (minuteOf b)
 
 -- R60: "Writing ..: 22, then the same field refusals (for a site 3 to 9 ..)"
 abbrev pub WritingASite : Type 0
 WritingASite =
     (s : Site) (out : List ℕ) →
-    By (22 ∷ 3 to 9) (bufferLines 30 out ++ siteLines s) (saidOfVerdict (written out (siteBytes s) (writeSite s out)) (writeSite s out)) (siteBytes s)
+    By (22 ∷ 3 to 9) (bufferLines (siteForm .size) out ++ siteLines s) (saidOfVerdict (written out (siteBytes s) (writeSite s out)) (writeSite s out)) (siteBytes s)
 
 -- R60: "(.. for a minute 12, 13 when it is not below 527,040, 14 to 18)"
 abbrev pub WritingAMinute : Type 0
 WritingAMinute =
     (n : Minute) (out : List ℕ) →
-    By (22 ∷ 12 to 18) (bufferLines 54 out ++ aloneLines n) (saidOfVerdict (written out (minuteBytes n) (writeMinute n out)) (writeMinute n out)) (minuteBytes n)
+    By (22 ∷ 12 to 18) (bufferLines (minuteForm .size) out ++ aloneLines n) (saidOfVerdict (written out (minuteBytes n) (writeMinute n out)) (writeMinute n out)) (minuteBytes n)
 
 -- R17, R18: "Height at most twice the diameter: open. Above that and at most ten times: low. Above ten: tall."
 abbrev pub Classing : Type 0
@@ -103,7 +103,7 @@ abbrev pub CheckingARun : Type 0
 CheckingARun =
     (m : Masses) (a : Account) (run : List ℕ) →
     saidOfChecked (checked m a run)
-    ≡ cond (eqb (length run % 54) 0) (firstSaid m a (recordsOf run)) (record { number = 1; values = none })
+    ≡ cond (eqb (length run % minuteForm .size) 0) (firstSaid m a (recordsOf run)) (record { number = 1; values = none })
 
 -- R49: "fed methane and CO2 equivalent in tonnes", each "the mg sum converted .., then one division by 1e9"
 abbrev pub Charting : Type 0
