@@ -63,19 +63,11 @@ impl Gas {
             + self.n2 as u64
     }
 
+    // No fraction of a gas that adds up to the whole is above it.
     pub(crate) fn composition_wrong(self) -> bool
         ensures { λ r. ⌜ r ≡ compositionWrong self ⌝ }
     {
-        let over = (Gas::WHOLE < self.ch4)
-            | (Gas::WHOLE < self.co)
-            | (Gas::WHOLE < self.co2)
-            | (Gas::WHOLE < self.o2)
-            | (Gas::WHOLE < self.h2)
-            | (Gas::WHOLE < self.h2s)
-            | (Gas::WHOLE < self.nh3)
-            | (Gas::WHOLE < self.n2);
-        let total = self.total();
-        over | (total != Gas::WHOLE as u64)
+        self.total() != Gas::WHOLE as u64
     }
 
     pub(crate) fn methane_wrong(self) -> bool
