@@ -109,37 +109,32 @@ impl Site {
         ensures { λ r. ⌜ r ≡ firstOf (siteLines self) ⌝ }
     {
         let measured = self.method == Site::MEASURED;
-        let year = self.year;
-        let gwp = self.gwp;
-        let height = self.height;
-        let diameter = self.diameter;
         let temperature = self.temperature;
         let flow = self.flow;
-        let days = self.days;
+        if !((self.method == Site::DEFAULT) | measured) {
+            return Verdict::Refuse(Refusal::Method);
+        }
+        if (self.year < Site::FIRST_YEAR) | (Site::LAST_YEAR < self.year) {
+            return Verdict::Refuse(Refusal::Year);
+        }
+        if (self.gwp < Site::LEAST_GWP) | (Site::MOST_GWP < self.gwp) {
+            return Verdict::Refuse(Refusal::Gwp);
+        }
+        if (Site::MOST_HEIGHT < self.height)
+            | ((self.diameter < Site::LEAST_DIAMETER) | (Site::MOST_DIAMETER < self.diameter))
+        {
+            return Verdict::Refuse(Refusal::Size);
+        }
+        if temperature.wrong() | flow.wrong() {
+            return Verdict::Refuse(Refusal::Spec);
+        }
+        if measured & self.is_open() {
+            return Verdict::Refuse(Refusal::Open);
+        }
+        if (Site::MOST_DAYS < self.days) | (measured & (self.days < Site::LEAST_DAYS_MEASURED)) {
+            return Verdict::Refuse(Refusal::Schedule);
+        }
         Verdict::Fine
-            .also(
-                !((self.method == Site::DEFAULT) | measured),
-                Refusal::Method,
-            )
-            .also(
-                (year < Site::FIRST_YEAR) | (Site::LAST_YEAR < year),
-                Refusal::Year,
-            )
-            .also(
-                (gwp < Site::LEAST_GWP) | (Site::MOST_GWP < gwp),
-                Refusal::Gwp,
-            )
-            .also(
-                (Site::MOST_HEIGHT < height)
-                    | ((diameter < Site::LEAST_DIAMETER) | (Site::MOST_DIAMETER < diameter)),
-                Refusal::Size,
-            )
-            .also(temperature.wrong() | flow.wrong(), Refusal::Spec)
-            .also(measured & self.is_open(), Refusal::Open)
-            .also(
-                (Site::MOST_DAYS < days) | (measured & (days < Site::LEAST_DAYS_MEASURED)),
-                Refusal::Schedule,
-            )
     }
 }
 
