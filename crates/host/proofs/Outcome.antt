@@ -2,16 +2,21 @@
 use Prim.Native.Nat.{ℕ}
 use mathlib.Core.Path.{_≡_, refl, sym, ap, _∙_}
 use mathlib.Core.List.{List, _++_}
+use lib.ListN.{length}
+use native.Mathlib.Omega.{arith}
+use borrow.Author.Tests.{eq-eqb, ne-eqb}
 use Rattle.refusals.specs.Refusals.{numberOf}
 use Rattle.refusals.specs.Tables.{Line, firstOf, followedBy}
 use Rattle.refusals.specs.declared.refusal.Refusal.{Refusal}
+use Rattle.refusals.specs.declared.refusal.Refusal.the-variants.{Buffer}
 use Rattle.refusals.specs.declared.verdict.Verdict.{Verdict}
 use Rattle.refusals.specs.declared.verdict.Verdict.the-variants.{Fine, Refuse}
 use Rattle.refusals.proofs.Tables.{joined, split}
 use Rattle.records.specs.House.{bufferLines, written, answered}
-use Rattle.site.specs.Record.{siteOf, siteHeadLines}
+use Rattle.site.specs.Record.{siteOf, siteHeadLines, readSite}
 use Rattle.site.specs.Rules.{siteLines, Examined}
 use Rattle.site.specs.declared.Site.{Site}
+use Rattle.site.specs.declared.SiteRead.the-variants.{Fields, Refused as NotRead}
 use Rattle.minute.specs.Record.{minuteOf, minuteHeadLines}
 use Rattle.minute.specs.Rules.{minuteLines}
 use Rattle.minute.specs.declared.Minute.{Minute}
@@ -49,6 +54,39 @@ code-returned f (Refuse r) = refl
 left-written : (own : List ℕ) (f : Figures) (v : Verdict) → left own (answered Accepted Refused f v) ≡ written own (answerBytes f) v
 left-written own f Fine = refl
 left-written own f (Refuse r) = refl
+
+-- what a site's record was read as tells its verdict
+read-fields : (s : Site) (v : Verdict) {f : Site} → answered Fields NotRead s v ≡ Fields f → (v ≡ Fine) × (f ≡ s)
+read-fields s Fine e = (refl, cc)
+read-fields s (Refuse r) e = absurd (let z : _≡_ {A = ℕ} 0 1 = cc in omega arith)
+
+read-refused : (s : Site) (v : Verdict) {r : Refusal} → answered Fields NotRead s v ≡ NotRead r → v ≡ Refuse r
+read-refused s Fine e = absurd (let z : _≡_ {A = ℕ} 0 1 = cc in omega arith)
+read-refused s (Refuse r) e = cc
+
+pub same-fields : (site : List ℕ) {f : Site} → readSite site ≡ Fields f → f ≡ siteOf site
+unfolding readSite
+same-fields site e = read-fields (siteOf site) (firstOf (siteHeadLines site ++ siteLines (siteOf site))) e .1
+
+module _ (site minute answer : List ℕ) where
+  abbrev siteRecord : List Line
+  siteRecord = siteHeadLines site ++ siteLines (siteOf site)
+
+  -- a buffer of the wrong size decides, and one of the right size leaves it to the records
+  pub wrong-size : (length answer ≡ 25 → ⊥) → firstOf (recordLines site minute answer) ≡ Refuse Buffer
+  wrong-size e = rw (ne-eqb (length answer) 25 e)
+
+  right-size : length answer ≡ 25 → firstOf (recordLines site minute answer) ≡ followedBy (firstOf siteRecord) (firstOf (minuteHeadLines minute))
+  right-size e = rw (eq-eqb (length answer) 25 e) (joined siteRecord (minuteHeadLines minute))
+
+  pub by-site : length answer ≡ 25 → {r : Refusal} → readSite site ≡ NotRead r → firstOf (recordLines site minute answer) ≡ Refuse r
+  unfolding readSite
+  by-site size e = right-size size ∙ ap (λ (v : Verdict). followedBy v (firstOf (minuteHeadLines minute))) (read-refused (siteOf site) (firstOf siteRecord) e)
+
+  pub by-minute : length answer ≡ 25 → {f : Site} → readSite site ≡ Fields f → {v : Verdict} → firstOf (minuteHeadLines minute) ≡ v → firstOf (recordLines site minute answer) ≡ v
+  unfolding readSite
+  by-minute size e head =
+      right-size size ∙ ap (λ (v : Verdict). followedBy v (firstOf (minuteHeadLines minute))) (read-fields (siteOf site) (firstOf siteRecord) e .0) ∙ head
 
 module _ (site minute : List ℕ) (days : ℕ) (answer : List ℕ) where
   abbrev s : Site

@@ -9,6 +9,7 @@ use minute::Minute;
 use refusals::Refusal;
 use refusals::Verdict;
 use site::Site;
+use site::SiteRead;
 use tool06::Figures;
 use tool06::Judged;
 
@@ -41,29 +42,27 @@ fn fill(answer: &mut [u8], figures: Figures)
 pub extern "C" fn flare_minute(site: &[u8], minute: &[u8], days: u16, answer: &mut [u8]) -> u8
     ensures { λ r. ⌜ (r ≡ returned (single (now (site .entry)) (now (minute .entry)) (now (answer .entry)))) × ((m : Masses) → Positive m → now (answer .exit) ≡ answerAfter m (now (site .entry)) (now (minute .entry)) days (now (answer .entry))) ⌝ }
 {
-    let fields = site::fields_in(site);
-    let buffer = Verdict::Fine.also(answer.len() != Figures::ANSWER_BYTES, Refusal::Buffer);
-    let site_head = records::head(site, Site::BYTES, Site::VERSION);
-    let minute_head = records::head(minute, Minute::BYTES, Minute::VERSION);
-    let verdict = buffer
-        .then(site_head)
-        .then(fields.verdict())
-        .then(minute_head);
-    match verdict {
-        Verdict::Refuse(r) => r.number(),
-        Verdict::Fine => {
-            let judged = judge::judge_single(
-                fields,
-                minute::fields_in(minute),
-                in_time(fields, days),
-            );
-            match judged {
-                Judged::Refused(r) => r.number(),
-                Judged::Accepted(figures) => {
-                    fill(answer, figures);
-                    0
+    if answer.len() != Figures::ANSWER_BYTES {
+        return Refusal::Buffer.number();
+    }
+    match Site::read(site) {
+        SiteRead::Refused(r) => r.number(),
+        SiteRead::Fields(fields) => match records::head(minute, Minute::BYTES, Minute::VERSION) {
+            Verdict::Refuse(r) => r.number(),
+            Verdict::Fine => {
+                let judged = judge::judge_single(
+                    fields,
+                    minute::fields_in(minute),
+                    in_time(fields, days),
+                );
+                match judged {
+                    Judged::Refused(r) => r.number(),
+                    Judged::Accepted(figures) => {
+                        fill(answer, figures);
+                        0
+                    }
                 }
             }
-        }
+        },
     }
 }
