@@ -60,6 +60,16 @@ emitted-within c k n o =
     let d = d-pos k n o in
     ceil-le (min (10 * xBy k n + dBy k n * (lostTenths c k * F-RG-ng n)) (F-RG-ng n * (10 * dBy k n))) (10 * dBy k n) (F-RG-ng n) (omega arith) .1 (omega arith)
 
+-- each figure is rounded from the tool's own fraction
+pub rounded-exactly : (m : Masses) (s : Site) (n : Minute) (inTime : Bool) → figures m s n inTime ≡ record {
+  rule = theRule s n inTime .number;
+  fed = roundUp (exactFed m s n inTime);
+  emitted = roundUp (exactEmitted m s n inTime);
+  destroyed = roundDown (exactDestroyed m s n inTime);
+}
+unfolding figures
+rounded-exactly m s n inTime = refl
+
 -- a minute with gas
 module _ (m : Masses) (pos : Positive m) {s : Site} {n : Minute} (f : Facts s n) (gas : hasGas n ≡ true) (inTime : Bool) where
   abbrev F : ℕ
