@@ -3,7 +3,7 @@ ghost use mathlib.Core.Path.{_≡_};
 ghost use Prim.Native.Nat.{_≤_};
 ghost use Rattle.site.specs.Rules.{Examined};
 ghost use Rattle.tool06.specs.Judged.{judged, oxygenWrong, beyondYear};
-ghost use Rattle.tool06.specs.scaffold.Nanograms.{Measurable, figuresNg};
+ghost use Rattle.tool06.specs.scaffold.Nanograms.{Takes, figuresNg};
 ghost use Rattle.tool06.specs.Rules.{theRule};
 ghost use Rattle.tool06.specs.Short.{S-negative, F-RG-ng};
 ghost use Rattle.tool06.specs.Tool.{Masses, Positive};
@@ -38,15 +38,15 @@ fn oxygen_wrong(site: Site, minute: Minute) -> bool
 
 // Of a minute that is accepted.
 fn figures_of(site: Site, minute: Minute, in_time: bool) -> Figures
-    requires { ⌜ (F-RG-ng minute ≤ 71600000000000) × (minute .exhaust .oxygen ≤ 209999) × (theRule site minute in_time .number ≡ 9 → Measurable minute) ⌝ }
+    requires { ⌜ (F-RG-ng minute ≤ 71600000000000) × (minute .exhaust .oxygen ≤ 209999) × Takes (theRule site minute in_time .loss) minute ⌝ }
     ensures { λ r. ⌜ r ≡ figuresNg site minute in_time ⌝ }
 {
-    let class = rules::class_of(site);
     let rule = rules::rule_of(site, minute, in_time);
     let fed = nanograms::fed_ng(minute);
-    let emitted = nanograms::emitted_ng(class, rule, minute, fed);
+    let loss = rule.loss;
+    let emitted = nanograms::emitted_ng(loss, minute, fed);
     Figures {
-        rule: rule,
+        rule: rule.number,
         fed: nanograms::ceil_div(fed, Figures::NANOGRAMS),
         emitted: nanograms::ceil_div(emitted, Figures::NANOGRAMS),
         destroyed: (fed - emitted) / Figures::NANOGRAMS,

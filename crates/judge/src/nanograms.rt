@@ -2,12 +2,12 @@
 ghost use mathlib.Core.Path.{_≡_};
 ghost use Prim.Native.Nat.{_+_, _*_, _≤_, _<_, _^_, min};
 ghost use Rattle.exact.specs.Rounding.{ceilDiv};
-ghost use Rattle.tool06.specs.scaffold.Nanograms.{lowTenth, lostTenths, lost, emittedNg, Measurable};
+ghost use Rattle.tool06.specs.scaffold.Nanograms.{P, Q, emittedNg, Measurable, Takes};
 ghost use Rattle.tool06.specs.Short.{K, K-plus, K-minus, F-RG-ng, five-LKf};
 use minute::Gas;
 use minute::Minute;
-use tool06::Class;
 use tool06::Figures;
+use tool06::Loss;
 
 pub(crate) fn ceil_div(x: u64, a: u64) -> u64
     requires { ⌜ (0 < a) × (x + a ≤ 2 ^ 64) ⌝ }
@@ -52,55 +52,35 @@ fn five_lkf(minute: Minute) -> u64
     5 * minute.litres as u64 * weight(minute.gas) * exhaust.methane as u64
 }
 
-// The tenth that a low flare loses beside all else.
-fn low_tenth(class: Class) -> u64
-    ensures { λ r. ⌜ r ≡ lowTenth class ⌝ }
+// So many millionths of fed.
+fn share_ng(fed: u64, millionths: u64) -> u64
+    requires { ⌜ (fed ≤ 71600000000000) × (millionths ≤ 1000000) ⌝ }
+    ensures { λ r. ⌜ r ≡ ceilDiv (millionths * fed) 1000000 ⌝ }
 {
-    match class {
-        Class::Open => 0,
-        Class::Low => Figures::LOW_TENTHS,
-        Class::Tall => 0,
-    }
+    fed / Loss::ALL * millionths + ceil_div(fed % Loss::ALL * millionths, Loss::ALL)
 }
 
-// How many tenths of the methane fed the rule takes for lost, beside what is measured.
-fn lost_tenths(class: Class, rule: u8) -> u64
-    ensures { λ r. ⌜ r ≡ lostTenths class rule ⌝ }
+// x P / (2 Q air) and so many tenths of fed, at most fed. Neither x P nor ten times x would fit.
+fn measured_ng(fed: u64, tenths: u64, x: u64, air: u64) -> u64
+    requires { ⌜ (fed ≤ 71600000000000) × (tenths ≤ 1) × (x ≤ 17900000000000000000) × (0 < air) × (air ≤ 210000) ⌝ }
+    ensures { λ r. ⌜ r ≡ ceilDiv (min (5 * (x * P) + Q * (air * (tenths * fed))) (fed * (10 * (Q * air)))) (10 * (Q * air)) ⌝ }
 {
-    if rule == Figures::OPEN {
-        Figures::OPEN_TENTHS
-    } else if rule == Figures::DEFAULT {
-        Figures::DEFAULT_TENTHS + low_tenth(class)
-    } else if rule == Figures::MEASURED {
-        low_tenth(class)
-    } else {
-        Figures::ALL_TENTHS
-    }
+    let digit = air * (tenths * (fed % Loss::ALL_TENTHS));
+    let rest = ceil_div(5 * (x % Loss::Q) * Loss::P + Loss::Q * digit, 5 * Loss::Q);
+    let up = ceil_div(x / Loss::Q * Loss::P + rest, 2 * air);
+    smaller(tenths * (fed / Loss::ALL_TENTHS) + up, fed)
 }
 
-// x / d and so many tenths of fed, at most fed. Ten times x would not fit.
-fn lost_ng(fed: u64, tenths: u64, x: u64, d: u64) -> u64
-    requires { ⌜ (fed ≤ 71600000000000) × (tenths ≤ 10) × (x ≤ 17900000000000000000) × (0 < d) × (d ≤ 420000) ⌝ }
-    ensures { λ r. ⌜ r ≡ lost fed tenths x d ⌝ }
+pub(crate) fn emitted_ng(loss: Loss, minute: Minute, fed: u64) -> u64
+    requires { ⌜ (fed ≡ F-RG-ng minute) × (fed ≤ 71600000000000) × Takes loss minute ⌝ }
+    ensures { λ r. ⌜ r ≡ emittedNg loss minute ⌝ }
 {
-    let rest = ceil_div(
-        d * (tenths * (fed % Figures::ALL_TENTHS)),
-        Figures::ALL_TENTHS,
-    );
-    let up = ceil_div(x + rest, d);
-    smaller(tenths * (fed / Figures::ALL_TENTHS) + up, fed)
-}
-
-pub(crate) fn emitted_ng(class: Class, rule: u8, minute: Minute, fed: u64) -> u64
-    requires { ⌜ (fed ≡ F-RG-ng minute) × (fed ≤ 71600000000000) × (rule ≡ 9 → Measurable minute) ⌝ }
-    ensures { λ r. ⌜ r ≡ emittedNg class rule minute ⌝ }
-{
-    let tenths = lost_tenths(class, rule);
-    if rule == Figures::MEASURED {
-        let exhaust = minute.exhaust;
-        let air = (Figures::AIR_OXYGEN - exhaust.oxygen) as u64;
-        lost_ng(fed, tenths, five_lkf(minute), 2 * air)
-    } else {
-        lost_ng(fed, tenths, 0, 1)
+    match loss {
+        Loss::Share(millionths) => share_ng(fed, millionths),
+        Loss::Measured(tenths) => {
+            let exhaust = minute.exhaust;
+            let air = (Figures::AIR_OXYGEN - exhaust.oxygen) as u64;
+            measured_ng(fed, tenths, five_lkf(minute), air)
+        }
     }
 }

@@ -1,29 +1,37 @@
-// The first rule that applies, by its number.
+// The first rule that applies: its number, and what it takes for lost.
 ghost use mathlib.Core.Path.{_≡_};
 ghost use Rattle.exact.specs.Ranges.{outside, outsideZ};
 ghost use Rattle.rules.specs.scaffold.Found.{orIf, otherwise};
-ghost use Rattle.tool06.specs.Rules.{theRule};
+ghost use Rattle.tool06.specs.declared.loss.Loss.the-variants.{Share, Measured};
+ghost use Rattle.tool06.specs.Rules.{lowTenth, ruling, theRule};
+use crate::class::class_of;
 use minute::Minute;
 use site::Flows;
 use site::Site;
 use site::Temperatures;
+use tool06::Class;
 use tool06::Figures;
+use tool06::Loss;
+use tool06::Ruling;
 
 pub(crate) enum Found {
     Nothing,
-    Rule(u8),
+    Rule(Ruling),
 }
 
 impl Found {
-    // This rule where the test holds and no rule before it was found.
-    fn or_if(self, test: bool, rule: u8) -> Found
-        ensures { λ r. ⌜ r ≡ orIf self test rule ⌝ }
+    // This rule, which takes so many millionths for lost, where the test holds and no rule before it was found.
+    fn or_share(self, test: bool, number: u8, millionths: u64) -> Found
+        ensures { λ r. ⌜ r ≡ orIf self test (record { number = number; loss = Share millionths }) ⌝ }
     {
         match self {
             Found::Rule(first) => Found::Rule(first),
             Found::Nothing => {
                 if test {
-                    Found::Rule(rule)
+                    Found::Rule(Ruling {
+                        number: number,
+                        loss: Loss::Share(millionths),
+                    })
                 } else {
                     Found::Nothing
                 }
@@ -31,12 +39,16 @@ impl Found {
         }
     }
 
-    fn otherwise(self, last: u8) -> u8
-        ensures { λ r. ⌜ r ≡ otherwise self last ⌝ }
+    // Or else the rule by which the exhaust is measured, with so many tenths beside.
+    fn or_measured(self, number: u8, tenths: u64) -> Ruling
+        ensures { λ r. ⌜ r ≡ otherwise self (record { number = number; loss = Measured tenths }) ⌝ }
     {
         match self {
             Found::Rule(first) => first,
-            Found::Nothing => last,
+            Found::Nothing => Ruling {
+                number: number,
+                loss: Loss::Measured(tenths),
+            },
         }
     }
 }
@@ -54,10 +66,23 @@ fn flow_unfit(range: Flows, litres: u32) -> bool
     (litres < range.lowest) | (range.highest < litres)
 }
 
-// The number of the first rule that applies, in the order of R19 in docs/RULES.md.
-pub fn rule_of(site: Site, minute: Minute, in_time: bool) -> u8
-    ensures { λ r. ⌜ r ≡ theRule site minute in_time .number ⌝ }
+// The tenth that a low flare loses beside all else.
+fn low_tenth(class: Class) -> u64
+    ensures { λ r. ⌜ r ≡ lowTenth class ⌝ }
 {
+    match class {
+        Class::Open => 0,
+        Class::Low => Loss::LOW_TENTHS,
+        Class::Tall => 0,
+    }
+}
+
+// The first rule that applies, in the order of R19 in docs/RULES.md.
+pub fn rule_of(site: Site, minute: Minute, in_time: bool) -> Ruling
+    ensures { λ r. ⌜ r ≡ ruling (theRule site minute in_time) ⌝ }
+{
+    let tenth = low_tenth(class_of(site));
+    let by_default = Loss::DEFAULT + Loss::LOW * tenth;
     let litres = minute.litres;
     let lit = minute.has(Minute::FLAME);
     let felt = minute.has(Minute::TEMPERATURE);
@@ -67,14 +92,14 @@ pub fn rule_of(site: Site, minute: Minute, in_time: bool) -> u8
     let litres_unfit = flow_unfit(site.flow, litres);
     let default = site.method == Site::DEFAULT;
     Found::Nothing
-        .or_if(!(0 < litres), Figures::NO_GAS)
-        .or_if(!lit, Figures::NO_FLAME)
-        .or_if(open, Figures::OPEN)
-        .or_if(!felt, Figures::NO_TEMPERATURE)
-        .or_if(celsius_unfit, Figures::TEMPERATURE)
-        .or_if(litres_unfit, Figures::FLOW)
-        .or_if(default, Figures::DEFAULT)
-        .or_if(!in_time, Figures::OVERDUE)
-        .or_if(!read, Figures::NO_EXHAUST)
-        .otherwise(Figures::MEASURED)
+        .or_share(!(0 < litres), Figures::NO_GAS, Loss::ALL)
+        .or_share(!lit, Figures::NO_FLAME, Loss::ALL)
+        .or_share(open, Figures::OPEN, Loss::OPEN)
+        .or_share(!felt, Figures::NO_TEMPERATURE, Loss::ALL)
+        .or_share(celsius_unfit, Figures::TEMPERATURE, Loss::ALL)
+        .or_share(litres_unfit, Figures::FLOW, Loss::ALL)
+        .or_share(default, Figures::DEFAULT, by_default)
+        .or_share(!in_time, Figures::OVERDUE, Loss::ALL)
+        .or_share(!read, Figures::NO_EXHAUST, Loss::ALL)
+        .or_measured(Figures::MEASURED, tenth)
 }

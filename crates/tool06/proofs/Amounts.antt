@@ -1,9 +1,8 @@
 -- What a minute emits and destroys, exactly and rounded, from the whole nanograms of the code.
 use mathlib.Core.Path.{_≡_, refl, sym, ap, _∙_}
 use mathlib.Core.Bool.{Bool, true, false}
-use Prim.Native.Nat.{ℕ, _+_, _-_, _*_, _/_, _≤_, _<_, min}
-use lib.Dec.{eqb}
-use native.Mathlib.Nat.{mul-pos}
+use Prim.Native.Nat.{ℕ, _-_, _*_, _/_, _≤_, _<_}
+use native.Mathlib.Nat.{mul-pos, mul-le-mul-right}
 use native.Mathlib.Omega.{arith}
 use Rattle.exact.specs.Rounding.{ceilDiv}
 use Rattle.exact.specs.RoundingLaws.{ceil-le}
@@ -20,17 +19,17 @@ use Rattle.site.specs.Rules.{Examined}
 use Rattle.site.specs.declared.Site.{Site}
 use Rattle.minute.specs.Rules.{hasGas}
 use Rattle.minute.specs.declared.Minute.{Minute}
-use Rattle.tool06.specs.declared.class.Class.{Class}
 use Rattle.tool06.specs.declared.figures.Judged.the-variants.{Accepted, Refused}
-use Rattle.tool06.specs.Class.{classOf}
-use Rattle.tool06.specs.Figures.{mg, η, exactFed, exactEmitted, exactDestroyed, figures}
+use Rattle.tool06.specs.declared.loss.Loss.{Loss}
+use Rattle.tool06.specs.declared.loss.Loss.the-variants.{Share, Measured}
+use Rattle.tool06.specs.Figures.{mg, emittedBy, destroyedBy, applied, exactFed, exactEmitted, exactDestroyed, figures}
 use Rattle.tool06.specs.Judged.{judgedLines, judged}
-use Rattle.tool06.specs.scaffold.Nanograms.{choose, lostTenths, lost, xBy, dBy, emittedNg, figuresNg, judgedNg}
+use Rattle.tool06.specs.scaffold.Nanograms.{perOf, lostOf, emittedNg, Takes, figuresNg, judgedNg}
 use Rattle.tool06.specs.Rules.{theRule}
-use Rattle.tool06.specs.Short.{D, F-RG-ng}
+use Rattle.tool06.specs.Short.{F-RG-ng}
 use Rattle.tool06.specs.Tool.{Masses, Positive, F-CH4-RG}
-use Rattle.tool06.proofs.Efficiency.{fed-is, zero-ratio, capped, F-pos, rule-fits}
-use Rattle.tool06.proofs.Facts.{Facts, facts, no-gas}
+use Rattle.tool06.proofs.Efficiency.{fed-is, zero-ratio, F-pos, rule-fits, applied-exactly}
+use Rattle.tool06.proofs.Facts.{Facts, facts, no-gas, rule-takes}
 
 -- n / (F q) of F nanograms, in mg
 scaled : (n F q : ℕ) → 0 < F → 0 < q → mg (whole n ⊘ whole (F * q) ⊗ (whole F ⊘ whole 1000000000000)) ≡ whole n ⊘ whole (q * 1000000)
@@ -46,19 +45,18 @@ fed-exact m s n inTime =
     rw (fed-is n, ratio-⊗-whole (F-RG-ng n) 1000000000000 1000000 (omega arith))
     (ratio-≡ (F-RG-ng n * 1000000) 1000000000000 (F-RG-ng n) 1000000 (omega arith) (omega arith) (omega arith))
 
-d-pos : (k : ℕ) (n : Minute) → n .exhaust .oxygen ≤ 209999 → 0 < dBy k n
-d-pos k n h = by-test (eqb k 9)
-  where
-    by-test : (b : Bool) → 0 < choose b (2 * D n) 1
-    by-test true = omega arith
-    by-test false = omega arith
+per-pos : (loss : Loss) (n : Minute) → n .exhaust .oxygen ≤ 209999 → 0 < perOf loss n
+per-pos (Share l) n o = omega arith
+per-pos (Measured t) n o = omega arith
+
+lost-within : (loss : Loss) (n : Minute) → Takes loss n → lostOf loss n ≤ F-RG-ng n * perOf loss n
+lost-within (Share l) n h = let k = mul-le-mul-right (F-RG-ng n) h in omega arith
+lost-within (Measured t) n h = omega arith
 
 -- no more is emitted than is fed
-pub emitted-within : (c : Class) (k : ℕ) (n : Minute) → n .exhaust .oxygen ≤ 209999 → emittedNg c k n ≤ F-RG-ng n
-unfolding emittedNg lost
-emitted-within c k n o =
-    let d = d-pos k n o in
-    ceil-le (min (10 * xBy k n + dBy k n * (lostTenths c k * F-RG-ng n)) (F-RG-ng n * (10 * dBy k n))) (10 * dBy k n) (F-RG-ng n) (omega arith) .1 (omega arith)
+pub emitted-within : (loss : Loss) (n : Minute) → n .exhaust .oxygen ≤ 209999 → Takes loss n → emittedNg loss n ≤ F-RG-ng n
+unfolding emittedNg
+emitted-within loss n o h = ceil-le (lostOf loss n) (perOf loss n) (F-RG-ng n) (per-pos loss n o) .1 (lost-within loss n h)
 
 -- each figure is rounded from the tool's own fraction
 pub rounded-exactly : (m : Masses) (s : Site) (n : Minute) (inTime : Bool) → figures m s n inTime ≡ record {
@@ -67,54 +65,63 @@ pub rounded-exactly : (m : Masses) (s : Site) (n : Minute) (inTime : Bool) → f
   emitted = roundUp (exactEmitted m s n inTime);
   destroyed = roundDown (exactDestroyed m s n inTime);
 }
-unfolding figures
-rounded-exactly m s n inTime = refl
+unfolding figures exactEmitted exactDestroyed
+rounded-exactly m s n inTime = rw (applied-exactly m s n inTime)
 
 -- a minute with gas
 module _ (m : Masses) (pos : Positive m) {s : Site} {n : Minute} (f : Facts s n) (gas : hasGas n ≡ true) (inTime : Bool) where
   abbrev F : ℕ
   F = F-RG-ng n
 
-  abbrev k : ℕ
-  k = theRule s n inTime .number
+  abbrev loss : Loss
+  loss = theRule s n inTime .loss
 
-  -- nanograms emitted are P / q
+  -- nanograms emitted are p / q
   abbrev pub q : ℕ
-  q = 10 * dBy k n
+  q = perOf loss n
 
-  abbrev pub P : ℕ
-  P = min (10 * xBy k n + dBy k n * (lostTenths (classOf s) k * F)) (F * q)
+  abbrev pub p : ℕ
+  p = lostOf loss n
 
   pub q-pos : 0 < q
-  q-pos = let d = d-pos k n (f .oxygen) in omega arith
+  q-pos = rule-fits m pos f gas inTime .0
+
+  p-within : p ≤ F * q
+  p-within = rule-fits m pos f gas inTime .1
 
   Fq-pos : 0 < F * q
   Fq-pos = mul-pos (F-pos m pos f gas) q-pos
 
-  η-is : η m s n inTime ≡ whole (F * q - P) ⊘ whole (F * q)
-  η-is = rule-fits m pos f gas inTime ∙ capped (10 * xBy k n + dBy k n * (lostTenths (classOf s) k * F)) (F * q) Fq-pos
+  applied-is : applied m s n inTime ≡ whole (F * q - p) ⊘ whole (F * q)
+  applied-is = rule-fits m pos f gas inTime .2
 
-  pub emitted-exact : exactEmitted m s n inTime ≡ whole P ⊘ whole (q * 1000000)
+  emitted-is : emittedBy (applied m s n inTime) n ≡ whole p ⊘ whole (q * 1000000)
+  emitted-is =
+      rw (applied-is, one-minus (F * q - p) p (F * q) Fq-pos (let h = p-within in omega arith), fed-is n) (scaled p F q (F-pos m pos f gas) q-pos)
+
+  destroyed-is : destroyedBy (applied m s n inTime) n ≡ whole (F * q - p) ⊘ whole (q * 1000000)
+  destroyed-is = rw (applied-is, fed-is n) (scaled (F * q - p) F q (F-pos m pos f gas) q-pos)
+
+  pub emitted-exact : exactEmitted m s n inTime ≡ whole p ⊘ whole (q * 1000000)
   unfolding exactEmitted
-  emitted-exact =
-      rw (η-is, one-minus (F * q - P) P (F * q) Fq-pos (omega arith), fed-is n) (scaled P F q (F-pos m pos f gas) q-pos)
+  emitted-exact = rw (← applied-exactly m s n inTime) emitted-is
 
-  pub destroyed-exact : exactDestroyed m s n inTime ≡ whole (F * q - P) ⊘ whole (q * 1000000)
+  pub destroyed-exact : exactDestroyed m s n inTime ≡ whole (F * q - p) ⊘ whole (q * 1000000)
   unfolding exactDestroyed
-  destroyed-exact = rw (η-is, fed-is n) (scaled (F * q - P) F q (F-pos m pos f gas) q-pos)
+  destroyed-exact = rw (← applied-exactly m s n inTime) destroyed-is
 
   fed-rounded : roundUp (exactFed m s n inTime) ≡ ceilDiv F 1000000
   fed-rounded = rw (fed-exact m s n inTime) (up-ratio F 1000000 (omega arith))
 
-  emitted-rounded : roundUp (exactEmitted m s n inTime) ≡ ceilDiv (emittedNg (classOf s) k n) 1000000
-  unfolding emittedNg lost
+  emitted-rounded : roundUp (emittedBy (applied m s n inTime) n) ≡ ceilDiv (emittedNg loss n) 1000000
+  unfolding emittedNg
   emitted-rounded =
-      rw emitted-exact (up-ratio P (q * 1000000) (let h = q-pos in omega arith) ∙ sym (ceil-ceil P q 1000000 q-pos (omega arith)))
+      rw emitted-is (up-ratio p (q * 1000000) (let h = q-pos in omega arith) ∙ sym (ceil-ceil p q 1000000 q-pos (omega arith)))
 
-  destroyed-rounded : roundDown (exactDestroyed m s n inTime) ≡ (F - emittedNg (classOf s) k n) / 1000000
-  unfolding emittedNg lost
+  destroyed-rounded : roundDown (destroyedBy (applied m s n inTime) n) ≡ (F - emittedNg loss n) / 1000000
+  unfolding emittedNg
   destroyed-rounded =
-      rw destroyed-exact (down-ratio (F * q - P) (q * 1000000) (let h = q-pos in omega arith) ∙ sym (floor-sub-ceil F P q 1000000 q-pos (omega arith) (omega arith)))
+      rw destroyed-is (down-ratio (F * q - p) (q * 1000000) (let h = q-pos in omega arith) ∙ sym (floor-sub-ceil F p q 1000000 q-pos (omega arith) p-within))
 
   same-with-gas : figuresNg s n inTime ≡ figures m s n inTime
   unfolding figures figuresNg
@@ -140,15 +147,15 @@ module _ (m : Masses) (s : Site) (n : Minute) (none : hasGas n ≡ false) (inTim
   unfolding exactDestroyed mg
   destroyed-zero = rw (F-zero, ⊗-zero, ⊗-comm, ⊗-zero)
 
-  emittedNg-zero : n .exhaust .oxygen ≤ 209999 → emittedNg (classOf s) (theRule s n inTime .number) n ≡ 0
-  emittedNg-zero o =
-      let l = emitted-within (classOf s) (theRule s n inTime .number) n o in
+  emittedNg-zero : Facts s n → emittedNg (theRule s n inTime .loss) n ≡ 0
+  emittedNg-zero f =
+      let l = emitted-within (theRule s n inTime .loss) n (f .oxygen) (rule-takes f inTime) in
       let e = F-none in
       omega arith
 
-  same-without-gas : n .exhaust .oxygen ≤ 209999 → figuresNg s n inTime ≡ figures m s n inTime
-  unfolding figures figuresNg roundUp roundDown whole ceilDiv
-  same-without-gas o = rw (fed-zero, emitted-zero, destroyed-zero, F-none, emittedNg-zero o)
+  same-without-gas : Facts s n → figuresNg s n inTime ≡ figures m s n inTime
+  unfolding figuresNg roundUp roundDown whole ceilDiv
+  same-without-gas f = rw (rounded-exactly m s n inTime, fed-zero, emitted-zero, destroyed-zero, F-none, emittedNg-zero f)
 
 -- the figures that the code computes are the exact fractions, each rounded once
 pub same-figures : (m : Masses) → Positive m → {s : Site} {n : Minute} → Facts s n → (inTime : Bool) → figuresNg s n inTime ≡ figures m s n inTime
@@ -156,7 +163,7 @@ same-figures m pos {s} {n} f inTime = by-gas (hasGas n) refl
   where
     by-gas : (gas : Bool) → hasGas n ≡ gas → figuresNg s n inTime ≡ figures m s n inTime
     by-gas true gas = same-with-gas m pos f gas inTime
-    by-gas false none = same-without-gas m s n none inTime (f .oxygen)
+    by-gas false none = same-without-gas m s n none inTime f
 
 pub same-judged : (m : Masses) → Positive m → (disordered : Bool) (s : Site) (n : Minute) (inTime : Bool) → Examined s → judgedNg disordered s n inTime ≡ judged m disordered s n inTime
 unfolding judged judgedNg

@@ -19,13 +19,16 @@ use Rattle.minute.specs.Rules.{hasGas, exhaustPresent}
 use Rattle.minute.specs.declared.Minute.{Minute}
 use Rattle.tool06.specs.declared.class.Class.{Class}
 use Rattle.tool06.specs.declared.class.Class.the-variants.{Open, Low, Tall}
+use Rattle.tool06.specs.declared.loss.Loss.{Loss}
+use Rattle.tool06.specs.declared.loss.Loss.the-variants.{Share, Measured}
 use Rattle.tool06.specs.Class.{classOf}
-use Rattle.tool06.specs.scaffold.Nanograms.{lowTenth, lostTenths, xBy, dBy}
-use Rattle.tool06.specs.Rules.{Rule, rule, lowered, measured, ruleLines, theRule}
+use Rattle.tool06.specs.Figures.{η, applied}
+use Rattle.tool06.specs.scaffold.Nanograms.{P, Q, perOf, lostOf}
+use Rattle.tool06.specs.Rules.{Rule, lowered, lowTenth, allLost, half, byDefault, measured, ruleLines, lastRule, theRule}
 use Rattle.tool06.specs.Short.{K, D, F-RG-ng, five-LKf}
 use Rattle.tool06.specs.Tool.{Masses, Positive, v, V-RG, ρ-CH4, F-CH4-RG, F-CH4-EG, η-calc}
-use Rattle.tool06.proofs.Facts.{Facts, has-gas, measurable}
-use Rattle.tool06.proofs.Rules.{by-turns}
+use Rattle.tool06.proofs.Facts.{Facts, has-gas, low-within, measurable}
+use Rattle.tool06.proofs.Rules.{_∣_, end, by-rows}
 use Rattle.tool06.proofs.Short.{short-whole}
 
 -- ten to the twelfth: nanograms to a kg
@@ -60,41 +63,39 @@ capped p q h = go (decLe p q)
         let e : q - min p q ≡ 0 = omega arith in
         rw (fails (le-test (whole 0) (whole 1 ⊖ whole p ⊘ whole q)) (λ t. k (one-minus-sign p q h .0 t)), e) (sym (zero-ratio q h))
 
--- x / d of F, and t tenths beside it
-lost-sum : (x d F t : ℕ) → 0 < d → 0 < F → whole x ⊘ whole (F * d) ⊕ whole t ⊘ whole 10 ≡ whole (10 * x + d * (t * F)) ⊘ whole (F * (10 * d))
-lost-sum x d F t hd hF =
-    let a : x * 10 + t * (F * d) ≡ 10 * x + d * (t * F) = omega arith in
-    let b : F * d * 10 ≡ F * (10 * d) = omega arith in
-    rw (ratio-⊕ x (F * d) t 10 (mul-pos hF hd) (omega arith), a, b)
+-- x P / (2 D Q) of F, and t tenths beside it
+lost-sum : (x D F t Q : ℕ) → 0 < D → 0 < F → 0 < Q → whole x ⊘ whole (F * (2 * D * Q)) ⊕ whole t ⊘ whole 10 ≡ whole (5 * x + Q * (D * (t * F))) ⊘ whole (F * (10 * (Q * D)))
+lost-sum x D F t Q hD hF hQ =
+    let h : 0 < F * (2 * D * Q) = mul-pos hF (mul-pos {m = 2 * D} (omega arith) hQ) in
+    rw (ratio-⊕ x (F * (2 * D * Q)) t 10 h (omega arith))
+    (ratio-≡ (x * 10 + t * (F * (2 * D * Q))) (F * (2 * D * Q) * 10) (5 * x + Q * (D * (t * F))) (F * (10 * (Q * D))) (omega arith) (omega arith) (omega arith))
 
--- the efficiency that loses x / d and t tenths of F
-abbrev pub Loses : ℕ → ℕ → ℕ → ℕ → Frac → Type 0
-Loses F t x d η = η ≡ at-least-zero (whole 1 ⊖ whole (10 * x + d * (t * F)) ⊘ whole (F * (10 * d)))
+-- p / q nanograms lost of F that are fed leave this efficiency
+abbrev pub Leaves : ℕ → ℕ → ℕ → Frac → Type 0
+Leaves F p q η = (0 < q) × (p ≤ F * q) × (η ≡ whole (F * q - p) ⊘ whole (F * q))
 
--- k / 10 loses the other tenths
-by-tenths : (F t k : ℕ) → 0 < F → t + k ≡ 10 → (η : Frac) → η ≡ whole k ⊘ whole 10 → Loses F t 0 1 η
-by-tenths F t k hF e η is =
-    let q : ℕ = F * (10 * 1) in
-    let p : ℕ = 10 * 0 + 1 * (t * F) in
-    let hq : 0 < q = omega arith in
-    let te : (t + k) * F ≡ 10 * F = ap (λ (z : ℕ). z * F) e in
-    let m : q - min p q ≡ k * F = omega arith in
-    is ∙ sym (capped p q hq ∙ rw m (ratio-≡ (k * F) q k 10 hq (omega arith) (omega arith)))
+-- a loss leaves this efficiency of a minute
+abbrev pub Loses : Minute → Loss → Frac → Type 0
+Loses n loss η = Leaves (F-RG-ng n) (lostOf loss n) (perOf loss n) η
 
-none-is : whole 0 ≡ whole 0 ⊘ whole 10
-none-is = sym (zero-ratio 10 (omega arith))
+-- l millionths lost leave the k others
+by-share : (F l k : ℕ) → 0 < F → l + k ≡ 1000000 → (η : Frac) → η ≡ whole k ⊘ whole 1000000 → Leaves F (l * F) 1000000 η
+by-share F l k hF e η is =
+    let te : (l + k) * F ≡ 1000000 * F = ap (λ (z : ℕ). z * F) e in
+    let m : F * 1000000 - l * F ≡ k * F = omega arith in
+    (omega arith, omega arith, is ∙ rw m (sym (ratio-≡ (k * F) (F * 1000000) k 1000000 (omega arith) (omega arith) (omega arith))))
 
-half-is : whole 1 ⊘ whole 2 ≡ whole 5 ⊘ whole 10
-half-is = ratio-≡ 1 2 5 10 (omega arith) (omega arith) refl
+none-is : whole 0 ≡ whole 0 ⊘ whole 1000000
+none-is = sym (zero-ratio 1000000 (omega arith))
 
-eight-is : whole 9 ⊘ whole 10 ⊖ whole 1 ⊘ whole 10 ≡ whole 8 ⊘ whole 10
+half-is : whole 1 ⊘ whole 2 ≡ whole 500000 ⊘ whole 1000000
+half-is = ratio-≡ 1 2 500000 1000000 (omega arith) (omega arith) refl
+
+default-is : (c : Class) → lowered c (whole 9 ⊘ whole 10) ≡ whole (900000 - 100000 * lowTenth c) ⊘ whole 1000000
 unfolding _⊖_ _⊘_ _⊗_ _⊕_ neg inv whole
-eight-is = Quot·sound refl
-
-default-loses : (F : ℕ) → 0 < F → (c : Class) → Loses F (1 + lowTenth c) 0 1 (lowered c (whole 9 ⊘ whole 10))
-default-loses F h Open = by-tenths F 1 9 h refl _ refl
-default-loses F h Low = by-tenths F 2 8 h refl _ eight-is
-default-loses F h Tall = by-tenths F 1 9 h refl _ refl
+default-is Open = Quot·sound refl
+default-is Low = Quot·sound refl
+default-is Tall = Quot·sound refl
 
 lowered-is : (c : Class) (η : Frac) → lowered c η ≡ η ⊖ whole (lowTenth c) ⊘ whole 10
 lowered-is Open η = rw (zero-ratio 10 (omega arith), ⊖-zero)
@@ -110,61 +111,86 @@ part X x d F hd hF e =
     rw (X-is, ratio-⊘ (x * 1) (d * tera) F tera (omega arith) hF (omega arith))
     (ratio-≡ (x * 1 * tera) (d * tera * F) x (F * d) (mul-pos {m = d * tera} (omega arith) hF) (mul-pos hF hd) (omega arith))
 
+-- the factor P / Q changes nothing
+by-factor : (x d : ℕ) → 0 < d → whole x ⊘ whole d ≡ whole (x * P) ⊘ whole (d * Q)
+by-factor x d h = ratio-≡ x d (x * P) (d * Q) h (omega arith) (omega arith)
+
 module _ (m : Masses) (pos : Positive m) {s : Site} {n : Minute} (f : Facts s n) (gas : hasGas n ≡ true) where
   pub F-pos : 0 < F-RG-ng n
   F-pos = mul-pos (mul-pos {m = 716} (omega arith) (has-gas n gas)) (f .some-methane gas)
 
-  ratio-is : isMeasured s ≡ true → exhaustPresent n ≡ true → F-CH4-EG m n ⊘ F-CH4-RG n ≡ whole (five-LKf n) ⊘ whole (F-RG-ng n * (2 * D n))
+  ratio-is : isMeasured s ≡ true → exhaustPresent n ≡ true → F-CH4-EG m n ⊘ F-CH4-RG n ≡ whole (five-LKf n * P) ⊘ whole (F-RG-ng n * (2 * D n * Q))
   ratio-is measured present =
       let o = f .oxygen in
       let k = measurable f gas measured present .weight in
-      rw (fed-is n) (part (F-CH4-EG m n) (five-LKf n) (2 * D n) (F-RG-ng n) (omega arith) F-pos
-      (short-whole m n (pos n (f .some-methane gas)) (D n) (omega arith) (omega arith) (K (n .gas)) (omega arith)))
+      rw (fed-is n) (part (F-CH4-EG m n) (five-LKf n * P) (2 * D n * Q) (F-RG-ng n) (omega arith) F-pos
+      (short-whole m n (pos n (f .some-methane gas)) (D n) (omega arith) (omega arith) (K (n .gas)) (omega arith)
+      ∙ by-factor (five-LKf n) (2 * D n) (omega arith)))
 
-  measured-loses : isMeasured s ≡ true → exhaustPresent n ≡ true → Loses (F-RG-ng n) (lowTenth (classOf s)) (five-LKf n) (2 * D n) (measured s n m)
+  measured-loses : isMeasured s ≡ true → exhaustPresent n ≡ true → Loses n (Measured (lowTenth (classOf s))) (measured s n m)
   unfolding η-calc
   measured-loses is present =
       let o = f .oxygen in
-      ap at-least-zero
-      (lowered-is (classOf s) (η-calc m n)
-      ∙ rw (ratio-is is present, ⊖-⊖, lost-sum (five-LKf n) (2 * D n) (F-RG-ng n) (lowTenth (classOf s)) (omega arith) F-pos))
+      let F : ℕ = F-RG-ng n in
+      let t : ℕ = lowTenth (classOf s) in
+      let p : ℕ = 5 * (five-LKf n * P) + Q * (D n * (t * F)) in
+      let q : ℕ = 10 * (Q * D n) in
+      let hq : 0 < q = omega arith in
+      let hF : 0 < F = F-pos in (
+        hq,
+        omega arith,
+        ap at-least-zero
+            (lowered-is (classOf s) (η-calc m n)
+            ∙ rw (ratio-is is present, ⊖-⊖, lost-sum (five-LKf n * P) (D n) F t Q (omega arith) hF (omega arith)))
+            ∙ capped p (F * q) (mul-pos hF hq),
+      )
 
-  -- what a rule's efficiency is to the numbers that the code takes for it
+  -- what the code takes for lost by a rule leaves the efficiency applied
   abbrev Fits : Rule → Type 0
-  Fits r = Loses (F-RG-ng n) (lostTenths (classOf s) (r .number)) (xBy (r .number) n) (dBy (r .number) n) (r .efficiency m)
+  Fits r = Loses n (r .loss) (r .efficiency m)
 
-  lost-all : Loses (F-RG-ng n) 10 0 1 (whole 0)
-  lost-all = by-tenths (F-RG-ng n) 10 0 F-pos refl (whole 0) none-is
+  lost-all : Loses n allLost (whole 0)
+  lost-all = by-share (F-RG-ng n) 1000000 0 F-pos refl (whole 0) none-is
+
+  half-loses : Loses n (Share 500000) (half m)
+  half-loses = by-share (F-RG-ng n) 500000 500000 F-pos refl _ half-is
+
+  default-loses : Loses n (Share (100000 + 100000 * lowTenth (classOf s))) (byDefault s m)
+  default-loses =
+      let l = low-within (classOf s) in
+      by-share (F-RG-ng n) (100000 + 100000 * lowTenth (classOf s)) (900000 - 100000 * lowTenth (classOf s)) F-pos (omega arith) _ (default-is (classOf s))
 
   pub rule-fits : (inTime : Bool) → Fits (theRule s n inTime)
   unfolding theRule ruleLines
   rule-fits inTime =
-      by-turns Fits (ruleLines s n inTime) (rule 9 (measured s n)) (
-        λ e. lost-all,
-        λ e. (
-          λ e. lost-all,
-          λ e. (
-            λ e. by-tenths (F-RG-ng n) 5 5 F-pos refl _ half-is,
-            λ e. (
-              λ e. lost-all,
-              λ e. (
-                λ e. lost-all,
-                λ e. (
-                  λ e. lost-all,
-                  λ e. (
-                    λ e. default-loses (F-RG-ng n) F-pos (classOf s),
-                    λ default. (
-                      λ e. lost-all,
-                      λ e. (
-                        λ e. lost-all,
-                        λ absent.
-                            measured-loses (f .method default) (not-false (exhaustPresent n) absent),
-                      ),
-                    ),
-                  ),
-                ),
-              ),
-            ),
-          ),
-        ),
+      by-rows Fits (ruleLines s n inTime) (lastRule s n) (
+      (λ e. lost-all) ∣
+      (λ e. lost-all) ∣
+      (λ e. half-loses) ∣
+      (λ e. lost-all) ∣
+      (λ e. lost-all) ∣
+      (λ e. lost-all) ∣
+      (λ e. default-loses) ∣
+      (λ e. lost-all) ∣
+      (λ e. lost-all) ∣
+      end
       )
+      (λ none. measured-loses (f .method (none .1 .1 .1 .1 .1 .1 .0)) (not-false (exhaustPresent n) (none .1 .1 .1 .1 .1 .1 .1 .1 .0)))
+
+-- every rule's efficiency is applied as the tool gives it
+pub applied-exactly : (m : Masses) (s : Site) (n : Minute) (inTime : Bool) → applied m s n inTime ≡ η m s n inTime
+unfolding theRule ruleLines
+applied-exactly m s n inTime =
+    by-rows (λ r. r .efficiency m ≡ r .exactly m) (ruleLines s n inTime) (lastRule s n) (
+    (λ e. refl) ∣
+    (λ e. refl) ∣
+    (λ e. refl) ∣
+    (λ e. refl) ∣
+    (λ e. refl) ∣
+    (λ e. refl) ∣
+    (λ e. refl) ∣
+    (λ e. refl) ∣
+    (λ e. refl) ∣
+    end
+    )
+    (λ none. refl)

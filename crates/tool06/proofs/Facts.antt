@@ -17,12 +17,20 @@ use Rattle.site.specs.declared.Site.{Site}
 use Rattle.minute.specs.Rules.{hasGas, exhaustPresent, fractionSum, fractionOver, compositionWrong, minuteLines}
 use Rattle.minute.specs.declared.gas.Gas.{Gas}
 use Rattle.minute.specs.declared.Minute.{Minute}
+use Rattle.tool06.specs.declared.class.Class.{Class}
+use Rattle.tool06.specs.declared.class.Class.the-variants.{Open, Low, Tall}
+use Rattle.tool06.specs.Class.{classOf}
 use Rattle.tool06.specs.Judged.{oxygenLines, judgedLines}
-use Rattle.tool06.specs.scaffold.Nanograms.{Measurable}
-use Rattle.tool06.specs.Rules.{rule, measured, ruleLines, theRule}
+use Rattle.tool06.specs.scaffold.Nanograms.{Measurable, Takes}
+use Rattle.tool06.specs.Rules.{lowTenth, ruleLines, lastRule, theRule}
 use Rattle.tool06.specs.Short.{S-plus, S-minus, S-negative, F-RG-ng}
-use Rattle.tool06.proofs.Rules.{by-turns}
+use Rattle.tool06.proofs.Rules.{_∣_, end, by-rows}
 use Rattle.tool06.proofs.Short.{K-positive}
+
+pub low-within : (c : Class) → lowTenth c ≤ 1
+low-within Open = omega arith
+low-within Low = omega arith
+low-within Tall = omega arith
 
 pub record Facts (s : Site) (n : Minute) : Type 0 where
   pub method : isDefault s ≡ false → isMeasured s ≡ true
@@ -102,36 +110,21 @@ module _ {s : Site} {n : Minute} (f : Facts s n) where
       let k = K-positive (n .gas) (f .some-methane gas) (f .air gas measured present) in
       record { flow = f .flow; weight = omega arith; weight-within = omega arith; oxygen = f .oxygen; methane = f .methane }
 
-  -- rule 9 stands only where all was examined
-  pub measured-rule : (inTime : Bool) → theRule s n inTime .number ≡ 9 → Measurable n
+  -- the code can take what each rule takes for lost
+  pub rule-takes : (inTime : Bool) → Takes (theRule s n inTime .loss) n
   unfolding theRule ruleLines
-  measured-rule inTime =
-      by-turns (λ r. r .number ≡ 9 → Measurable n) (ruleLines s n inTime) (rule 9 (measured s n)) (
-        λ e nine. absurd (omega arith),
-        λ gas. (
-          λ e nine. absurd (omega arith),
-          λ e. (
-            λ e nine. absurd (omega arith),
-            λ e. (
-              λ e nine. absurd (omega arith),
-              λ e. (
-                λ e nine. absurd (omega arith),
-                λ e. (
-                  λ e nine. absurd (omega arith),
-                  λ e. (
-                    λ e nine. absurd (omega arith),
-                    λ default. (
-                      λ e nine. absurd (omega arith),
-                      λ e. (
-                        λ e nine. absurd (omega arith),
-                        λ absent nine.
-                            measurable (not-false (hasGas n) gas) (f .method default) (not-false (exhaustPresent n) absent),
-                      ),
-                    ),
-                  ),
-                ),
-              ),
-            ),
-          ),
-        ),
+  rule-takes inTime =
+      let all : 1000000 ≤ 1000000 = omega arith in
+      by-rows (λ r. Takes (r .loss) n) (ruleLines s n inTime) (lastRule s n) (
+      (λ e. all) ∣
+      (λ e. all) ∣
+      (λ e. omega arith) ∣
+      (λ e. all) ∣
+      (λ e. all) ∣
+      (λ e. all) ∣
+      (λ e. let l = low-within (classOf s) in omega arith) ∣
+      (λ e. all) ∣
+      (λ e. all) ∣
+      end
       )
+      (λ none. (low-within (classOf s), measurable (not-false (hasGas n) (none .0)) (f .method (none .1 .1 .1 .1 .1 .1 .0)) (not-false (exhaustPresent n) (none .1 .1 .1 .1 .1 .1 .1 .1 .0))))

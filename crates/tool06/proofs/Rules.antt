@@ -6,15 +6,20 @@ use mathlib.Core.List.{List, [], _∷_}
 use Rattle.exact.proofs.Bools.{and-true}
 use Rattle.tool06.specs.Rules.{Rule, RuleLine, when, first}
 
--- by each test in its turn
-abbrev pub Turns : (Rule → Type 0) → List RuleLine → Rule → Type 0
-Turns P [] last = P last
-Turns P (when test r ∷ rest) last = (test ≡ true → P r) × (test ≡ false → Turns P rest last)
+-- row by row: each row's rule where its test holds, and the last where no test does
+infixr 20 _∣_
+pub data Rows (P : Rule → Type 0) : List RuleLine → Type 0 where
+  end : Rows P []
+  _∣_ : {test : Bool} {r : Rule} {rest : List RuleLine} → (test ≡ true → P r) → Rows P rest → Rows P (when test r ∷ rest)
 
-pub by-turns : (P : Rule → Type 0) (lines : List RuleLine) (last : Rule) → Turns P lines last → P (first lines last)
-by-turns P [] last p = p
-by-turns P (when true r ∷ rest) last p = p .0 refl
-by-turns P (when false r ∷ rest) last p = by-turns P rest last (p .1 refl)
+abbrev pub NoneHolds : List RuleLine → Type 0
+NoneHolds [] = Unit {0}
+NoneHolds (when test r ∷ rest) = (test ≡ false) × NoneHolds rest
+
+pub by-rows : (P : Rule → Type 0) (lines : List RuleLine) (last : Rule) → Rows P lines → (NoneHolds lines → P last) → P (first lines last)
+by-rows P [] last end p = p tt
+by-rows P (when true r ∷ rest) last (row ∣ rows) p = row refl
+by-rows P (when false r ∷ rest) last (row ∣ rows) p = by-rows P rest last rows (λ none. p (refl, none))
 
 -- every rule of a list passes a test of its number
 abbrev pub numbered : (ℕ → Bool) → List RuleLine → Bool

@@ -16,7 +16,7 @@ use Rattle.sums.specs.Within.{most, Within}
 use Rattle.tool06.specs.Bounds.{Entry, IsAccepted, figuresOf, worthOf}
 use Rattle.tool06.specs.Figures.{figures}
 use Rattle.tool06.specs.scaffold.Nanograms.{figuresNg}
-use Rattle.tool06.specs.Rules.{RuleLine, rule, measured, ruleLines, theRule}
+use Rattle.tool06.specs.Rules.{RuleLine, ruleCount, ruleLines, lastRule, theRule}
 use Rattle.tool06.specs.Short.{F-RG-ng}
 use Rattle.tool06.specs.Tool.{Masses, Positive}
 use Rattle.tool06.proofs.Amounts.{same-figures}
@@ -24,9 +24,9 @@ use Rattle.tool06.proofs.Facts.{facts, fed-within}
 use Rattle.tool06.proofs.Rules.{first-numbered}
 use Rattle.tool06.proofs.Sums.{one-minute}
 
-below-ten : (s : Site) (n : Minute) (inTime : Bool) → theRule s n inTime .number < 10
+below-count : (s : Site) (n : Minute) (inTime : Bool) → theRule s n inTime .number < ruleCount
 unfolding theRule ruleLines
-below-ten s n inTime = ltb-true _ _ (first-numbered (λ k. ltb k 10) (ruleLines s n inTime) (rule 9 (measured s n)) refl refl)
+below-count s n inTime = ltb-true _ _ (first-numbered (λ k. ltb k ruleCount) (ruleLines s n inTime) (lastRule s n) refl refl)
 
 -- the lines after the first, which is rule 0's
 later : List RuleLine → List RuleLine
@@ -36,7 +36,7 @@ later (line ∷ lines) = lines
 with-gas : (s : Site) (n : Minute) (inTime : Bool) → hasGas n ≡ true → 0 < theRule s n inTime .number
 unfolding theRule ruleLines later
 with-gas s n inTime gas =
-    rw gas (ltb-true _ _ (first-numbered (λ k. ltb 0 k) (later (ruleLines s n inTime)) (rule 9 (measured s n)) refl refl))
+    rw gas (ltb-true _ _ (first-numbered (λ k. ltb 0 k) (later (ruleLines s n inTime)) (lastRule s n) refl refl))
 
 without-gas : (s : Site) (n : Minute) (inTime : Bool) → hasGas n ≡ false → theRule s n inTime .number ≡ 0
 unfolding theRule ruleLines
@@ -54,9 +54,9 @@ module _ (m : Masses) (e : Entry) where
           rw (ne-eqb (theRule (e .site) (e .minute) (e .inTime) .number) 0 (λ z. omega arith)) refl
       by-gas false none = rw (without-gas (e .site) (e .minute) (e .inTime) none) refl
 
-  pub rule-below : figuresOf m e .rule < 10
+  pub rule-below : figuresOf m e .rule < ruleCount
   unfolding figures
-  rule-below = below-ten (e .site) (e .minute) (e .inTime)
+  rule-below = below-count (e .site) (e .minute) (e .inTime)
 
 -- 71.6 kg at most in a minute with gas
 fed-most : (m : Masses) → Positive m → (e : Entry) → IsAccepted e → figuresOf m e .fed ≤ worthOf m e .gas * most

@@ -39,15 +39,6 @@ impl Figures {
     // How many rules there are.
     pub const RULES: usize = 10;
 
-    // The tenths of the methane fed that a rule takes for lost: at an open flare, by default, for a low flare beside the default or what is measured, and where the flare does not work.
-    pub const OPEN_TENTHS: u64 = 5;
-
-    pub const DEFAULT_TENTHS: u64 = 1;
-
-    pub const LOW_TENTHS: u64 = 1;
-
-    pub const ALL_TENTHS: u64 = 10;
-
     // Of the answer to the C call: three figures of eight bytes, and the rule.
     pub const ANSWER_BYTES: usize = 25;
 

@@ -8,7 +8,7 @@ use Rattle.refusals.specs.declared.verdict.Verdict.the-variants.{Fine}
 use Rattle.site.specs.Rules.{siteLines}
 use Rattle.minute.specs.Rules.{compositionWrong, minuteLines}
 use Rattle.tool06.specs.Judged.{judged}
-use Rattle.tool06.specs.scaffold.Nanograms.{lost, emittedNg, figuresNg, judgedNg}
+use Rattle.tool06.specs.scaffold.Nanograms.{emittedNg, figuresNg, judgedNg}
 use Rattle.tool06.specs.Rules.{ruleLines, theRule}
 use Rattle.tool06.specs.Tool.{Masses, Positive}
 use Rattle.tool06.proofs.Amounts.{same-judged}
@@ -20,7 +20,7 @@ in-nanograms m pos [] fine = refl
 in-nanograms m pos (x ∷ xs) fine = ap₂ _∷_ (sym (same-judged m pos false (x .site) (x .minute) true cc)) (in-nanograms m pos xs cc)
 
 computed : map (λ x. judgedNg false (x .site) (x .minute) true) table ≡ map (λ x. x .answer) table
-unfolding table judgedNg figuresNg emittedNg lost ceilDiv theRule ruleLines siteLines minuteLines compositionWrong
+unfolding table judgedNg figuresNg emittedNg ceilDiv theRule ruleLines siteLines minuteLines compositionWrong
 computed = refl
 
 examined : map (λ x. firstOf (siteLines (x .site))) table ≡ map (λ x. Fine) table

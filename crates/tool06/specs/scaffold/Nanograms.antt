@@ -1,51 +1,40 @@
 -- The whole nanograms that the code carries, rounded up once.
 -- Nothing here needs to be believed: the code's figures are proved to be those of Figures.antt.
 use Prim.Native.Nat.{ℕ, _+_, _-_, _*_, _/_, _≤_, min}
-use mathlib.Core.Bool.{Bool, true, false}
-use lib.Dec.{eqb}
+use mathlib.Core.Bool.{Bool}
 use Rattle.exact.specs.Rounding.{ceilDiv}
 use Rattle.refusals.specs.Tables.{firstOf}
 use Rattle.records.specs.House.{answered}
 use Rattle.site.specs.declared.Site.{Site}
 use Rattle.minute.specs.declared.Minute.{Minute}
-use Rattle.tool06.specs.declared.class.Class.{Class}
-use Rattle.tool06.specs.declared.class.Class.the-variants.{Open, Low, Tall}
 use Rattle.tool06.specs.declared.figures.Figures.{Figures}
 use Rattle.tool06.specs.declared.figures.Judged.{Judged}
 use Rattle.tool06.specs.declared.figures.Judged.the-variants.{Accepted, Refused}
-use Rattle.tool06.specs.Class.{classOf}
+use Rattle.tool06.specs.declared.loss.Loss.{Loss}
+use Rattle.tool06.specs.declared.loss.Loss.the-variants.{Share, Measured}
 use Rattle.tool06.specs.Judged.{judgedLines}
 use Rattle.tool06.specs.Rules.{theRule}
 use Rattle.tool06.specs.Short.{K, K-plus, K-minus, D, F-RG-ng, five-LKf}
 
-abbrev pub choose : Bool → ℕ → ℕ → ℕ
-choose true x y = x
-choose false x y = y
+-- what the exhaust carries by the short form is multiplied by P / Q
+abbrev pub P : ℕ
+P = 1
 
--- a low flare loses one tenth more
-abbrev pub lowTenth : Class → ℕ
-lowTenth Open = 0
-lowTenth Low = 1
-lowTenth Tall = 0
+abbrev pub Q : ℕ
+Q = 1
 
--- how many tenths of the methane fed a rule takes for lost, beside what is measured
-abbrev pub lostTenths : Class → ℕ → ℕ
-lostTenths c k = choose (eqb k 2) 5 (choose (eqb k 3) (1 + lowTenth c) (choose (eqb k 9) (lowTenth c) 10))
+-- nanograms lost are lostOf / perOf: so many millionths of what is fed, or 5 L K f P / (2 D Q) and so many tenths of it, at most what is fed
+abbrev pub perOf : Loss → Minute → ℕ
+perOf (Share l) n = 1000000
+perOf (Measured t) n = 10 * (Q * D n)
 
--- x / d and so many tenths of F, at most F, rounded up
-unfoldable pub lost : ℕ → ℕ → ℕ → ℕ → ℕ
-lost F tenths x d = ceilDiv (min (10 * x + d * (tenths * F)) (F * (10 * d))) (10 * d)
+abbrev pub lostOf : Loss → Minute → ℕ
+lostOf (Share l) n = l * F-RG-ng n
+lostOf (Measured t) n = min (5 * (five-LKf n * P) + Q * (D n * (t * F-RG-ng n))) (F-RG-ng n * (10 * (Q * D n)))
 
--- what the exhaust carries is x / d, and 0 / 1 where it is not measured
-abbrev pub xBy : ℕ → Minute → ℕ
-xBy k n = choose (eqb k 9) (five-LKf n) 0
-
-abbrev pub dBy : ℕ → Minute → ℕ
-dBy k n = choose (eqb k 9) (2 * D n) 1
-
--- nanograms emitted by class and rule
-unfoldable pub emittedNg : Class → ℕ → Minute → ℕ
-emittedNg c k n = lost (F-RG-ng n) (lostTenths c k) (xBy k n) (dBy k n)
+-- rounded up once
+unfoldable pub emittedNg : Loss → Minute → ℕ
+emittedNg loss n = ceilDiv (lostOf loss n) (perOf loss n)
 
 -- what was examined before a minute's exhaust is measured
 pub record Measurable (n : Minute) : Type 0 where
@@ -55,13 +44,17 @@ pub record Measurable (n : Minute) : Type 0 where
   pub oxygen : n .exhaust .oxygen ≤ 209999
   pub methane : n .exhaust .methane ≤ 50000
 
+-- a loss that the code can take of a minute
+abbrev pub Takes : Loss → Minute → Type 0
+Takes (Share l) n = l ≤ 1000000
+Takes (Measured t) n = (t ≤ 1) × Measurable n
+
 -- the figures in mg from whole nanograms
 unfoldable pub figuresNg : Site → Minute → Bool → Figures
 figuresNg s n inTime =
-    let k = theRule s n inTime .number in
-    let E = emittedNg (classOf s) k n in
+    let E = emittedNg (theRule s n inTime .loss) n in
     record {
-      rule = k;
+      rule = theRule s n inTime .number;
       fed = ceilDiv (F-RG-ng n) 1000000;
       emitted = ceilDiv E 1000000;
       destroyed = (F-RG-ng n - E) / 1000000;

@@ -9,7 +9,7 @@ use Rattle.tool06.specs.declared.figures.Judged.the-variants.{Accepted, Refused
 use Rattle.tool06.specs.Judged.{oxygenWrong, judgedLines}
 use Rattle.tool06.specs.scaffold.Nanograms.{figuresNg, judgedNg}
 use Rattle.tool06.proofs.Amounts.{same-judged}
-use Rattle.tool06.proofs.Facts.{facts, fed-within, measured-rule}
+use Rattle.tool06.proofs.Facts.{facts, fed-within, rule-takes}
 use Rattle.judge.proofs.figures.judge.Statement.{statement}
 use Rattle.judge.proofs.figures.judge.Tie as tie
 
@@ -25,7 +25,7 @@ figures-of-requires c κs =
     let v = c .before .before in
     let a = v .before .before .before .args in
     let f = facts (a .disordered) (a .site) (a .minute) (v .before .before .before .pre) (sym (decided v) ∙ c .enum-told .given .1) in
-    (fed-within f, f .oxygen, measured-rule f (a .in-time))
+    (fed-within f, f .oxygen, rule-takes f (a .in-time))
 
 returns : tie.Need-returns
 unfolding judgedNg
