@@ -17,6 +17,9 @@ extern "C" {
 #define FLARE_MINUTE_BYTES 54
 #define FLARE_ANSWER_BYTES 25
 
+/* The rules are 0 to one less than this: as many counts as a host that adds the minutes up by rule needs. */
+#define FLARE_RULES 10
+
 /* For `days`: the flare was never maintained. */
 #define FLARE_NEVER_MAINTAINED 65535
 
@@ -29,7 +32,7 @@ extern "C" {
  * answer, answer_len  25 bytes that the call may write to
  *
  * Returns 0, and then the answer holds, big-endian:
- *   bytes 0-7 methane fed, 8-15 emitted, 16-23 destroyed, in mg; byte 24 the rule, 0 to 9.
+ *   bytes 0-7 methane fed, 8-15 emitted, 16-23 destroyed, in mg; byte 24 the rule, below FLARE_RULES.
  * Or returns the number of the first refusal in this order, and the answer is as it was:
  *   22 BUFFER       answer_len is not 25
  *    1 LENGTH       the site is not 30 bytes, or its length field is not 28

@@ -146,7 +146,7 @@ void tally_print(const struct tally *tally)
         print_call(tally, call);
     for (int i = 0; i < OTHERS; i++)
         print_list(other_names[i], &tally->others[i], 1);
-    print_list("added under rules 0 to 9", tally->rules, RULES);
+    print_list("added under each rule", tally->rules, RULES);
     print_list("classes open, low, tall", tally->classes, 3);
 }
 
@@ -184,7 +184,7 @@ int tally_is_enough(const struct tally *tally, uint64_t enough)
     for (int i = 0; i < OTHERS; i++)
         good &= is_enough(tally->others[i], enough, "of all", other_names[i]);
     for (int i = 0; i < RULES; i++)
-        good &= is_enough(tally->rules[i], enough, "add", "each of the rules 0 to 9");
+        good &= is_enough(tally->rules[i], enough, "add", "each of the rules");
     for (int i = 0; i < 3; i++)
         good &= is_enough(tally->classes[i], enough, "class", "each of the three");
     return good;

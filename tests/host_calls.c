@@ -7,6 +7,9 @@
 #include <stdlib.h>
 #include <string.h>
 
+_Static_assert(SITE_BYTES == FLARE_SITE_BYTES && MINUTE_BYTES == FLARE_MINUTE_BYTES, "the header has other records");
+_Static_assert(ANSWER_BYTES == FLARE_ANSWER_BYTES && RULES == FLARE_RULES, "the header has another answer");
+
 enum { GUARD = 16, ANSWER_ROOM = 26, FRAME = GUARD + ANSWER_ROOM + GUARD, ENOUGH = 1000, SHOWN = 3 };
 
 struct call {

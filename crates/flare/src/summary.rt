@@ -1,10 +1,11 @@
 // The minutes under each rule, in the order in which the first that applies decides.
 ghost use Prim.Native.Nat.{_<_};
+ghost use Rattle.tool06.specs.Rules.{ruleCount};
 use tool06::Figures;
 
 // A line's text is that of `lines`. Answers whether it could be printed.
 fn print_rule(counts: [u32; Figures::RULES], rule: u8, words: &[u8]) -> bool
-    requires { ⌜ rule < 10 ⌝ }
+    requires { ⌜ rule < ruleCount ⌝ }
 {
     let mut line = [0u8; 163];
     let used = lines::put_rule(&mut line, 0, rule, counts[rule as usize], words);
