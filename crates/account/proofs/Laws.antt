@@ -1,14 +1,12 @@
 -- What the calls keep of every account.
-use Prim.Native.Nat.{ℕ, zero, suc, _+_, _≤_, _<_}
+use Prim.Native.Nat.{ℕ, _+_, _≤_, _<_}
 use mathlib.Core.Path.{_≡_, refl, sym, ap, _∙_}
 use mathlib.Core.Bool.{Bool, true, false, not}
-use mathlib.Core.List.{List, _∷_}
+use mathlib.Core.List.{List}
 use native.Mathlib.Omega.{arith}
-use borrow.Author.Tests.{eqb-true, eqb-false}
 use lib.Dec.{eqb}
 use lib.IntN.{ℤ}
-use lib.ListN.{length, getD, set, length-set}
-use lib.Seq.{getD-set-same, getD-set-other}
+use lib.ListN.{length, getD, length-set}
 use Rattle.refusals.specs.Tables.{firstOf}
 use Rattle.refusals.specs.declared.verdict.Verdict.the-variants.{Fine}
 use Rattle.site.specs.Rules.{yearMinutes}
@@ -16,12 +14,13 @@ use Rattle.site.specs.declared.Site.{Site}
 use Rattle.sums.specs.Sums.{none, _⊞_, oneIf}
 use Rattle.sums.specs.scaffold.Fits.{Fits}
 use Rattle.sums.proofs.Laws.{none-within, plus-within}
+use Rattle.counts.proofs.Laws.{count-more, sum-more}
 use Rattle.tool06.specs.Tool.{Masses, Positive}
 use Rattle.tool06.specs.declared.figures.Figures.{Figures}
 use Rattle.tool06.specs.declared.figures.Judged.{Judged}
 use Rattle.tool06.specs.declared.figures.Judged.the-variants.{Accepted, Refused}
-use Rattle.account.specs.Adding.{worth, oneMore, withMinute, afterAnswer, answer, addTo}
-use Rattle.account.specs.Kept.{sum, Kept}
+use Rattle.account.specs.Adding.{worth, withMinute, afterAnswer, answer, addTo}
+use Rattle.account.specs.Kept.{Kept}
 use Rattle.account.specs.scaffold.Small.{Small}
 use Rattle.account.specs.Opening.{openLines, fresh, opened}
 use Rattle.account.specs.Promises.{OnlyOpened, RefusedStays}
@@ -30,20 +29,6 @@ use Rattle.account.specs.declared.open.Opened.{Opened}
 use Rattle.account.proofs.Accepted.{accepted}
 use Rattle.account.proofs.Opens.{opens-kept, list-is-kept, as-given, site-examined}
 use Rattle.account.proofs.Within.{year-within, one-if-within}
-
--- one more under a rule: the count of that rule is one more, and the others are as they were
-pub count-more : (counts : List ℕ) (rule k : ℕ) → rule < length counts → getD (oneMore counts rule) k 0 ≡ getD counts k 0 + oneIf (eqb rule k)
-count-more counts rule k there = by-rule (eqb rule k) refl
-  where
-    by-rule : (b : Bool) → eqb rule k ≡ b → getD (oneMore counts rule) k 0 ≡ getD counts k 0 + oneIf b
-    by-rule true e = rw (← eqb-true rule k e) (getD-set-same counts rule (getD counts rule 0 + 1) 0 there)
-    by-rule false e =
-        let other = getD-set-other counts rule k (getD counts rule 0 + 1) 0 (λ z. eqb-false rule k e (sym z)) in
-        omega (arith, other)
-
-sum-set : (xs : List ℕ) (k x : ℕ) → k < length xs → sum (set xs k x) + getD xs k 0 ≡ sum xs + x
-sum-set (y ∷ xs) zero x h = omega arith
-sum-set (y ∷ xs) (suc k) x h = let e = sum-set xs k x (omega arith) in omega (arith, e)
 
 one-or-other : (b : Bool) → oneIf (not b) + oneIf b ≡ 1
 one-or-other true = refl
@@ -77,13 +62,13 @@ module _ {a : Account} {f : Figures} (kept : Kept a) (small : Small f) (room : a
   pub kept-with : Kept (withMinute a f)
   unfolding withMinute _⊞_
   kept-with =
-      let there : f .rule < length (a .counts) = omega (arith, kept .ten-counts, small .rule-below) in
+      let there : f .rule < length (a .counts) = omega (arith, kept .counts-all, small .rule-below) in
       record {
         opens = kept .opens;
         minutes-within = omega (arith, minutes-one f);
         list-kept = kept .list-kept;
-        ten-counts = length-set (a .counts) (f .rule) _ ∙ kept .ten-counts;
-        counts-sum = omega (arith, minutes-one f, kept .counts-sum, sum-set (a .counts) (f .rule) (getD (a .counts) (f .rule) 0 + 1) there);
+        counts-all = length-set (a .counts) (f .rule) _ ∙ kept .counts-all;
+        counts-sum = omega (arith, minutes-one f, kept .counts-sum, sum-more (a .counts) (f .rule) there);
         gas-counted = omega (arith, minutes-one f, gas-is f, kept .gas-counted, count-more (a .counts) (f .rule) 0 there, one-or-other (eqb (f .rule) 0));
         sums-within = plus-within (kept .sums-within) (small .worth-within);
       }
@@ -112,7 +97,7 @@ fresh-kept s days fine = record {
   opens = opens-kept s days fine;
   minutes-within = omega arith;
   list-kept = list-is-kept s days fine;
-  ten-counts = refl;
+  counts-all = refl;
   counts-sum = refl;
   gas-counted = refl;
   sums-within = none-within;

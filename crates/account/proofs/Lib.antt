@@ -1,5 +1,4 @@
 pub mod Accepted
-pub mod Counting
 pub mod Laws
 pub mod Lossless
 pub mod Opens

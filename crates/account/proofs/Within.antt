@@ -1,17 +1,15 @@
 -- How large the numbers of an account can be.
-use Prim.Native.Nat.{ℕ, zero, suc, _%_, _*_, _≤_}
+use Prim.Native.Nat.{ℕ, _%_, _*_, _≤_}
 use mathlib.Core.Bool.{Bool, true, false}
 use mathlib.Core.Path.{_≡_, refl}
 use lib.Dec.{eqb}
-use lib.ListN.{getD}
-use mathlib.Core.List.{List, [], _∷_}
 use native.Mathlib.Omega.{arith}
 use Rattle.exact.proofs.Rounding.{mul-within}
 use Rattle.site.specs.Rules.{yearMinutes}
 use Rattle.sums.specs.Sums.{oneIf}
 use Rattle.sums.specs.Within.{most}
 use Rattle.account.specs.Closing.{co2e}
-use Rattle.account.specs.Kept.{sum, Kept}
+use Rattle.account.specs.Kept.{Kept}
 use Rattle.account.specs.declared.Account.{Account}
 use Rattle.account.proofs.Opens.{gwp-most, site-examined}
 
@@ -21,12 +19,6 @@ year-within year = by-leap (eqb (year % 4) 0) refl
     by-leap : (leap : Bool) → eqb (year % 4) 0 ≡ leap → (525600 ≤ yearMinutes year) × (yearMinutes year ≤ 527040)
     by-leap true e = rw e (omega arith, omega arith)
     by-leap false e = rw e (omega arith, omega arith)
-
--- one of several is at most their sum
-pub one-within : (xs : List ℕ) (k : ℕ) → getD xs k 0 ≤ sum xs
-one-within [] k = omega arith
-one-within (x ∷ xs) zero = omega arith
-one-within (x ∷ xs) (suc k) = let h = one-within xs k in omega arith
 
 pub one-if-within : (b : Bool) → oneIf b ≤ 1
 one-if-within true = omega arith

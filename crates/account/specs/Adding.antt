@@ -3,7 +3,6 @@ use Prim.Native.Nat.{ℕ, _+_, _/_}
 use mathlib.Core.Bool.{Bool, not}
 use mathlib.Core.List.{List, _∷_, _++_}
 use lib.Dec.{leb, eqb}
-use lib.ListN.{getD, set}
 use Rattle.refusals.specs.Tables.{Line, when, firstOf}
 use Rattle.refusals.specs.declared.refusal.Refusal.the-variants.{Full}
 use Rattle.records.specs.House.{answered}
@@ -19,6 +18,7 @@ use Rattle.tool06.specs.Tool.{Masses}
 use Rattle.tool06.specs.declared.figures.Figures.{Figures}
 use Rattle.tool06.specs.declared.figures.Judged.{Judged}
 use Rattle.tool06.specs.declared.figures.Judged.the-variants.{Accepted, Refused}
+use Rattle.counts.specs.Counts.{oneMore}
 use Rattle.account.specs.declared.Account.{Account}
 use Rattle.account.specs.declared.add.Added.{Added}
 
@@ -57,10 +57,6 @@ withGas rule = oneIf (not (eqb rule 0))
 -- R46: what an accepted minute adds: "1 to the minutes, 1 to the minutes with gas unless its rule is 0 .. and its three figures"
 unfoldable pub worth : Figures → Sums
 worth f = record { minutes = 1; gas = withGas (f .rule); fed = f .fed; emitted = f .emitted; destroyed = f .destroyed }
-
--- R46: one more at place k
-abbrev pub oneMore : List ℕ → ℕ → List ℕ
-oneMore counts k = set counts k (getD counts k 0 + 1)
 
 -- R46: the sums with the minute's worth, and one more under its rule
 unfoldable pub withMinute : Account → Figures → Account

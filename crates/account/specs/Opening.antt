@@ -9,6 +9,7 @@ use Rattle.site.specs.Rules.{yearMinutes, siteLines}
 use Rattle.site.specs.declared.Site.{Site}
 use Rattle.sums.specs.Sums.{none}
 use Rattle.maintenance.specs.Days.{listWrong, maintenanceOf}
+use Rattle.tool06.specs.Rules.{ruleCount}
 use Rattle.account.specs.declared.Account.{Account}
 use Rattle.account.specs.declared.open.Opened.{Opened}
 
@@ -26,7 +27,7 @@ fresh s days = record {
   site = s;
   maintenance = maintenanceOf days;
   sums = none;
-  counts = replicate 10 0;
+  counts = replicate ruleCount 0;
 }
 
 -- R53, R54: beside a refusal stands an account that meets no call's requirement (OnlyOpened)

@@ -1,13 +1,10 @@
 // Adding a minute.
 ghost use mathlib.Core.Path.{_≡_};
-ghost use Prim.Native.Nat.{_+_, _≤_, _<_};
-ghost use lib.Dec.{eqb};
-ghost use lib.ListN.{length, getD};
-ghost use Rattle.account.specs.Adding.{isFull, inTimeAt, withGas, worth, oneMore, withMinute, answer, addTo};
-ghost use Rattle.account.specs.Kept.{sum, Kept};
+ghost use Prim.Native.Nat.{_<_};
+ghost use Rattle.account.specs.Adding.{isFull, inTimeAt, withGas, worth, withMinute, answer, addTo};
+ghost use Rattle.account.specs.Kept.{Kept};
 ghost use Rattle.account.specs.scaffold.Small.{Small};
 ghost use Rattle.site.specs.Rules.{yearMinutes};
-ghost use Rattle.sums.specs.Sums.{oneIf};
 ghost use Rattle.tool06.specs.Tool.{Masses, Positive};
 use crate::Account;
 use minute::Minute;
@@ -42,37 +39,6 @@ fn worth(figures: Figures) -> Sums
         emitted: figures.emitted,
         destroyed: figures.destroyed,
     }
-}
-
-// The count at a place, with one more where it is the rule's.
-fn counted(counts: [u32; Figures::RULES], place: usize, rule: u8) -> u32
-    requires { ⌜ (place < 10) × (sum counts ≤ 527040) ⌝ }
-    ensures { λ r. ⌜ r ≡ getD counts place 0 + oneIf (eqb rule place) ⌝ }
-{
-    if rule as usize == place {
-        counts[place] + 1
-    } else {
-        counts[place]
-    }
-}
-
-// One more under a rule. Each count is made anew, since an array that is stored to at one place is slow to copy afterwards.
-fn one_more(counts: [u32; Figures::RULES], rule: u8) -> [u32; Figures::RULES]
-    requires { ⌜ (length counts ≡ 10) × (sum counts ≤ 527040) ⌝ }
-    ensures { λ r. ⌜ r ≡ oneMore counts rule ⌝ }
-{
-    [
-        counted(counts, 0, rule),
-        counted(counts, 1, rule),
-        counted(counts, 2, rule),
-        counted(counts, 3, rule),
-        counted(counts, 4, rule),
-        counted(counts, 5, rule),
-        counted(counts, 6, rule),
-        counted(counts, 7, rule),
-        counted(counts, 8, rule),
-        counted(counts, 9, rule),
-    ]
 }
 
 impl Account {
@@ -124,7 +90,7 @@ impl Account {
     {
         let sums = self.sums;
         let counts = self.counts;
-        let raised = one_more(counts, figures.rule);
+        let raised = counts::one_more(counts, figures.rule);
         self.sums = sums.plus(worth(figures));
         self.counts = raised;
         self

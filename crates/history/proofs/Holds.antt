@@ -10,15 +10,17 @@ use Rattle.sums.specs.Sums.{none, _⊞_, total}
 use Rattle.sums.specs.declared.Sums.{Sums}
 use Rattle.sums.proofs.Laws.{total-more, count-more}
 use Rattle.tool06.specs.Bounds.{Entry, figuresOf, worthOf}
+use Rattle.tool06.specs.Rules.{ruleCount}
 use Rattle.tool06.specs.Tool.{Masses}
 use Rattle.tool06.proofs.Sizes.{rule-below}
+use Rattle.counts.proofs.Laws.{count-more as one-more}
 use Rattle.account.specs.Adding.{entry, worth, withMinute}
 use Rattle.account.specs.Closing.{co2e}
 use Rattle.account.specs.Kept.{Kept}
 use Rattle.account.specs.Opening.{fresh, opened}
 use Rattle.account.specs.declared.Account.{Account}
 use Rattle.account.proofs.Accepted.{worth-is, small, room}
-use Rattle.account.proofs.Laws.{count-more as one-more, minutes-one, kept-with, only-opened}
+use Rattle.account.proofs.Laws.{minutes-one, kept-with, only-opened}
 use Rattle.history.specs.Promises.{Holds, OfEvery, EveryKept}
 use Rattle.history.proofs.Calls.{every}
 
@@ -33,7 +35,7 @@ module _ (m : Masses) where
   opened-holds s days = record {
     minutes-are = refl;
     sums-are = refl;
-    counts-are = λ k below. getD-replicate 10 k 0 0 below;
+    counts-are = λ k below. getD-replicate ruleCount k 0 0 below;
     co2e-is = refl;
   }
 
@@ -45,7 +47,7 @@ module _ (m : Masses) where
   holds-more : {a : Account} {es : List Entry} → Kept a → Holds m a es → (e : Entry) → Holds m (withMinute a (figuresOf m e)) (es ++ (e ∷ []))
   unfolding withMinute co2e
   holds-more {a} {es} kept h e =
-      let there : figuresOf m e .rule < length (a .counts) = omega (arith, kept .ten-counts, rule-below m e) in
+      let there : figuresOf m e .rule < length (a .counts) = omega (arith, kept .counts-all, rule-below m e) in
       let sums : a .sums ⊞ worth (figuresOf m e) ≡ total (worthOf m) (es ++ (e ∷ [])) = rw (total-more (worthOf m) es e, worth-is m e, h .sums-are) in
       record {
         minutes-are = minutes-more a es h e;

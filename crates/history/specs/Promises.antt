@@ -11,6 +11,7 @@ use Rattle.maintenance.specs.Days.{inTime, listedDays}
 use Rattle.sums.specs.Bounds.{exactSums, Bounds}
 use Rattle.sums.specs.Sums.{total, count}
 use Rattle.tool06.specs.Bounds.{Entry, IsAccepted, figuresOf, worthOf, exactOf}
+use Rattle.tool06.specs.Rules.{ruleCount}
 use Rattle.tool06.specs.Tool.{Each, Masses, Positive, AllPositive, by-equation-7}
 use Rattle.account.specs.Closing.{co2e}
 use Rattle.account.specs.Kept.{Kept}
@@ -34,7 +35,7 @@ pub record Holds (m : Masses) (a : Account) (es : List Entry) : Type 0 where
   pub minutes-are : a .sums .minutes ≡ length es
   pub sums-are : a .sums ≡ total (worthOf m) es
   -- R84: "each count is the number of accepted minutes under that rule"
-  pub counts-are : (k : ℕ) → k < 10 → getD (a .counts) k 0 ≡ count (λ e. eqb (figuresOf m e .rule) k) es
+  pub counts-are : (k : ℕ) → k < ruleCount → getD (a .counts) k 0 ≡ count (λ e. eqb (figuresOf m e .rule) k) es
   -- R47: "CO2 equivalent, in mg, is GWP times the emitted sum"
   pub co2e-is : co2e a ≡ a .site .gwp * total (worthOf m) es .emitted
 

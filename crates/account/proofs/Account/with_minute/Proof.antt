@@ -16,7 +16,7 @@ one-more-requires c κs =
     let e = c .before .before in
     let k = e .pre .0 in
     let y = year-within (e .args .self .site .year) .1 in
-    (k .ten-counts, omega (arith, k .minutes-within, k .counts-sum))
+    (k .counts-all, omega (arith, k .minutes-within, k .counts-sum))
 
 returns : tie.Need-returns
 unfolding withMinute

@@ -3,9 +3,9 @@ use native.Mathlib.Nat.{add-zero}
 use native.Mathlib.Omega.{arith}
 use borrow.Author.Needs.{needs}
 use borrow.Author.Tests.{eq-eqb, ne-eqb}
-use Rattle.account.proofs.Within.{one-within}
-use Rattle.account.proofs.add.counted.Statement.{statement}
-use Rattle.account.proofs.add.counted.Tie as tie
+use Rattle.counts.proofs.Laws.{one-within}
+use Rattle.counts.proofs.counted.Statement.{statement}
+use Rattle.counts.proofs.counted.Tie as tie
 
 add-result : tie.Need-add-result
 add-result c =

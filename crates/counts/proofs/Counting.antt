@@ -1,4 +1,4 @@
--- Ten counts made anew are the counts with one more at the rule's place.
+-- Counts made anew are the counts with one more at the rule's place.
 use Prim.Native.Nat.{ℕ, zero, suc, _+_, _<_}
 use mathlib.Core.Path.{_≡_, refl, sym, ap, _∙_}
 use mathlib.Core.Bool.{Bool, true, false}
@@ -10,7 +10,7 @@ use lib.Dec.{eqb}
 use lib.ListN.{length, getD, set, length-set}
 use lib.Seq.{ext-getD, getD-set-same, getD-set-other}
 use Rattle.sums.specs.Sums.{oneIf}
-use Rattle.account.specs.Adding.{oneMore}
+use Rattle.counts.specs.Counts.{oneMore}
 
 -- n counts from place k on, with one more where the place is the rule's
 abbrev pub each : ℕ → ℕ → List ℕ → ℕ → List ℕ

@@ -1,9 +1,9 @@
 use Prim.Native.Nat.{ℕ}
 use mathlib.Core.Path.{_≡_, ap, sym, _∙_}
 use borrow.Author.Needs.{needs}
-use Rattle.account.proofs.Counting.{each, each-one-more}
-use Rattle.account.proofs.add.one_more.Statement.{statement}
-use Rattle.account.proofs.add.one_more.Tie as tie
+use Rattle.counts.proofs.Counting.{each, each-one-more}
+use Rattle.counts.proofs.one_more.Statement.{statement}
+use Rattle.counts.proofs.one_more.Tie as tie
 
 returns : tie.Need-returns
 returns c =
