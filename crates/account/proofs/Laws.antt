@@ -6,15 +6,15 @@ use mathlib.Core.List.{List}
 use native.Mathlib.Omega.{arith}
 use lib.Dec.{eqb}
 use lib.IntN.{ℤ}
-use lib.ListN.{length, getD, length-set}
+use lib.ListN.{length, length-set}
 use Rattle.refusals.specs.Tables.{firstOf}
 use Rattle.refusals.specs.declared.verdict.Verdict.the-variants.{Fine}
 use Rattle.site.specs.Rules.{yearMinutes}
 use Rattle.site.specs.declared.Site.{Site}
-use Rattle.sums.specs.Sums.{none, _⊞_, oneIf}
+use Rattle.sums.specs.Sums.{noSums, _⊞_, oneIf}
 use Rattle.sums.specs.scaffold.Fits.{Fits}
 use Rattle.sums.proofs.Laws.{none-within, plus-within}
-use Rattle.counts.proofs.Laws.{count-more, sum-more}
+use Rattle.counts.proofs.Laws.{one-more-at, sum-more}
 use Rattle.tool06.specs.Tool.{Masses, Positive}
 use Rattle.tool06.specs.declared.figures.Figures.{Figures}
 use Rattle.tool06.specs.declared.figures.Judged.{Judged}
@@ -69,7 +69,7 @@ module _ {a : Account} {f : Figures} (kept : Kept a) (small : Small f) (room : a
         list-kept = kept .list-kept;
         counts-all = length-set (a .counts) (f .rule) _ ∙ kept .counts-all;
         counts-sum = omega (arith, minutes-one f, kept .counts-sum, sum-more (a .counts) (f .rule) there);
-        gas-counted = omega (arith, minutes-one f, gas-is f, kept .gas-counted, count-more (a .counts) (f .rule) 0 there, one-or-other (eqb (f .rule) 0));
+        gas-counted = omega (arith, minutes-one f, gas-is f, kept .gas-counted, one-more-at (a .counts) (f .rule) 0 there, one-or-other (eqb (f .rule) 0));
         sums-within = plus-within (kept .sums-within) (small .worth-within);
       }
 
@@ -92,7 +92,7 @@ unfolding addTo
 minutes-on m a bytes f e = rw e (minutes-more a f)
 
 pub fresh-kept : (s : Site) (days : List ℤ) → firstOf (openLines s days) ≡ Fine → Kept (fresh s days)
-unfolding fresh none
+unfolding fresh noSums
 fresh-kept s days fine = record {
   opens = opens-kept s days fine;
   minutes-within = omega arith;

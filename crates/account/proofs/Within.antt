@@ -7,7 +7,7 @@ use native.Mathlib.Omega.{arith}
 use Rattle.exact.proofs.Rounding.{mul-within}
 use Rattle.site.specs.Rules.{yearMinutes}
 use Rattle.sums.specs.Sums.{oneIf}
-use Rattle.sums.specs.Within.{most}
+use Rattle.sums.specs.Within.{mostMg}
 use Rattle.account.specs.Closing.{co2e}
 use Rattle.account.specs.Kept.{Kept}
 use Rattle.account.specs.declared.Account.{Account}
@@ -24,7 +24,7 @@ pub one-if-within : (b : Bool) → oneIf b ≤ 1
 one-if-within true = omega arith
 one-if-within false = omega arith
 
-pub sum-within : {a : Account} → Kept a → (x : ℕ) → x ≤ a .sums .gas * most → x ≤ 37736064000000
+pub sum-within : {a : Account} → Kept a → (x : ℕ) → x ≤ a .sums .gas * mostMg → x ≤ 37736064000000
 sum-within {a} k x h =
     let y = year-within (a .site .year) .1 in
     let n = k .minutes-within in
@@ -32,7 +32,7 @@ sum-within {a} k x h =
     omega arith
 
 -- below 2^53 mg
-pub gwp-times : {a : Account} → Kept a → (x : ℕ) → x ≤ a .sums .gas * most → a .site .gwp * x ≤ 3773606400000000
+pub gwp-times : {a : Account} → Kept a → (x : ℕ) → x ≤ a .sums .gas * mostMg → a .site .gwp * x ≤ 3773606400000000
 gwp-times {a} k x h = mul-within (a .site .gwp) x 100 37736064000000 (gwp-most (a .site) (site-examined k)) (sum-within k x h)
 
 pub co2e-within : {a : Account} → Kept a → co2e a ≤ 3773606400000000

@@ -1,5 +1,5 @@
 -- R46, R55, R56: "Adding a minute: 11, 1, 2, 12 to 19", and what an accepted minute adds.
-use Prim.Native.Nat.{ℕ, _+_, _/_}
+use Prim.Native.Nat.{ℕ, _/_}
 use mathlib.Core.Bool.{Bool, not}
 use mathlib.Core.List.{List, _∷_, _++_}
 use lib.Dec.{leb, eqb}
@@ -54,7 +54,7 @@ answer m a b = answered Accepted Refused (figuresOf m (entry a b)) (firstOf (add
 abbrev pub withGas : ℕ → ℕ
 withGas rule = oneIf (not (eqb rule 0))
 
--- R46: what an accepted minute adds: "1 to the minutes, 1 to the minutes with gas unless its rule is 0 .. and its three figures"
+-- R46: what an accepted minute adds: one to the minutes, one to those with gas unless its rule is 0, and its three figures
 unfoldable pub worth : Figures → Sums
 worth f = record { minutes = 1; gas = withGas (f .rule); fed = f .fed; emitted = f .emitted; destroyed = f .destroyed }
 

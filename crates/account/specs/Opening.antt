@@ -7,7 +7,7 @@ use Rattle.refusals.specs.Tables.{Line, when, firstOf}
 use Rattle.refusals.specs.declared.refusal.Refusal.the-variants.{List as LIST}
 use Rattle.site.specs.Rules.{yearMinutes, siteLines}
 use Rattle.site.specs.declared.Site.{Site}
-use Rattle.sums.specs.Sums.{none}
+use Rattle.sums.specs.Sums.{noSums}
 use Rattle.maintenance.specs.Days.{listWrong, maintenanceOf}
 use Rattle.tool06.specs.Rules.{ruleCount}
 use Rattle.account.specs.declared.Account.{Account}
@@ -26,7 +26,7 @@ unfoldable pub fresh : Site → List ℤ → Account
 fresh s days = record {
   site = s;
   maintenance = maintenanceOf days;
-  sums = none;
+  sums = noSums;
   counts = replicate ruleCount 0;
 }
 

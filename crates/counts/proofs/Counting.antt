@@ -7,7 +7,7 @@ use native.Mathlib.Nat.{add-zero}
 use native.Mathlib.Omega.{arith}
 use borrow.Author.Tests.{eqb-true, eqb-false}
 use lib.Dec.{eqb}
-use lib.ListN.{length, getD, set, length-set}
+use lib.ListN.{length, getD, length-set}
 use lib.Seq.{ext-getD, getD-set-same, getD-set-other}
 use Rattle.sums.specs.Sums.{oneIf}
 use Rattle.counts.specs.Counts.{oneMore}

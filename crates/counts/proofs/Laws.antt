@@ -12,8 +12,8 @@ use Rattle.sums.specs.Sums.{oneIf}
 use Rattle.counts.specs.Counts.{sum, oneMore}
 
 -- one more under a rule: the count of that rule is one more, and the others are as they were
-pub count-more : (counts : List ℕ) (rule k : ℕ) → rule < length counts → getD (oneMore counts rule) k 0 ≡ getD counts k 0 + oneIf (eqb rule k)
-count-more counts rule k there = by-rule (eqb rule k) refl
+pub one-more-at : (counts : List ℕ) (rule k : ℕ) → rule < length counts → getD (oneMore counts rule) k 0 ≡ getD counts k 0 + oneIf (eqb rule k)
+one-more-at counts rule k there = by-rule (eqb rule k) refl
   where
     by-rule : (b : Bool) → eqb rule k ≡ b → getD (oneMore counts rule) k 0 ≡ getD counts k 0 + oneIf b
     by-rule true e = rw (← eqb-true rule k e) (getD-set-same counts rule (getD counts rule 0 + 1) 0 there)

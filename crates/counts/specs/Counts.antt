@@ -1,4 +1,4 @@
--- R46: "ten counts, one for each rule".
+-- R46: "ten counts, one per rule".
 use Prim.Native.Nat.{ℕ, _+_}
 use mathlib.Core.List.{List, [], _∷_}
 use lib.ListN.{getD, set}

@@ -4,13 +4,14 @@ ghost use Prim.Native.Nat.{_+_, _≤_, _<_};
 ghost use lib.Dec.{eqb};
 ghost use lib.ListN.{length, getD};
 ghost use Rattle.sums.specs.Sums.{oneIf};
+ghost use Rattle.sums.specs.scaffold.Fits.{minutesMost};
 ghost use Rattle.tool06.specs.Rules.{ruleCount};
 ghost use Rattle.counts.specs.Counts.{sum, oneMore};
 use tool06::Figures;
 
 // The count at a place, with one more where it is the rule's.
 fn counted(counts: [u32; Figures::RULES], place: usize, rule: u8) -> u32
-    requires { ⌜ (place < ruleCount) × (sum counts ≤ 527040) ⌝ }
+    requires { ⌜ (place < ruleCount) × (sum counts ≤ minutesMost) ⌝ }
     ensures { λ r. ⌜ r ≡ getD counts place 0 + oneIf (eqb rule place) ⌝ }
 {
     if rule as usize == place {
@@ -22,7 +23,7 @@ fn counted(counts: [u32; Figures::RULES], place: usize, rule: u8) -> u32
 
 // One more under a rule. Each count is made anew, since an array that is stored to at one place is slow to copy afterwards.
 pub fn one_more(counts: [u32; Figures::RULES], rule: u8) -> [u32; Figures::RULES]
-    requires { ⌜ (length counts ≡ ruleCount) × (sum counts ≤ 527040) ⌝ }
+    requires { ⌜ (length counts ≡ ruleCount) × (sum counts ≤ minutesMost) ⌝ }
     ensures { λ r. ⌜ r ≡ oneMore counts rule ⌝ }
 {
     [

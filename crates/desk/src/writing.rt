@@ -68,7 +68,7 @@ fn site_of(values: [usize; 15]) -> Site {
 
 fn site_into(room: &mut [u8], values: [usize; 15], out: &mut [u8], at: usize) -> usize {
     blank(room);
-    let verdict = site_of(values).write(room);
+    let verdict = writing::write_site(site_of(values), room);
     let at = put_verdict(out, at, verdict);
     put_room(out, at, room)
 }
@@ -109,7 +109,7 @@ fn minute_of(values: [usize; 15]) -> Minute {
 
 fn minute_into(room: &mut [u8], values: [usize; 15], out: &mut [u8], at: usize) -> usize {
     blank(room);
-    let verdict = minute_of(values).write(room);
+    let verdict = writing::write_minute(minute_of(values), room);
     let at = put_verdict(out, at, verdict);
     put_room(out, at, room)
 }

@@ -6,14 +6,14 @@ use native.Mathlib.Omega.{arith}
 use lib.IntN.{ℤ}
 use lib.ListN.{length, length-append, getD-replicate}
 use Rattle.site.specs.declared.Site.{Site}
-use Rattle.sums.specs.Sums.{none, _⊞_, total}
+use Rattle.sums.specs.Sums.{noSums, _⊞_, total}
 use Rattle.sums.specs.declared.Sums.{Sums}
 use Rattle.sums.proofs.Laws.{total-more, count-more}
 use Rattle.tool06.specs.Bounds.{Entry, figuresOf, worthOf}
 use Rattle.tool06.specs.Rules.{ruleCount}
 use Rattle.tool06.specs.Tool.{Masses}
 use Rattle.tool06.proofs.Sizes.{rule-below}
-use Rattle.counts.proofs.Laws.{count-more as one-more}
+use Rattle.counts.proofs.Laws.{one-more-at}
 use Rattle.account.specs.Adding.{entry, worth, withMinute}
 use Rattle.account.specs.Closing.{co2e}
 use Rattle.account.specs.Kept.{Kept}
@@ -31,7 +31,7 @@ every-kept m pos s days a es =
 
 module _ (m : Masses) where
   opened-holds : (s : Site) (days : List ℤ) → Holds m (opened s days .account) []
-  unfolding opened fresh co2e none
+  unfolding opened fresh co2e noSums
   opened-holds s days = record {
     minutes-are = refl;
     sums-are = refl;
@@ -52,7 +52,7 @@ module _ (m : Masses) where
       record {
         minutes-are = minutes-more a es h e;
         sums-are = sums;
-        counts-are = λ k below. rw (count-more, one-more (a .counts) (figuresOf m e .rule) k there, h .counts-are k below);
+        counts-are = λ k below. rw (count-more, one-more-at (a .counts) (figuresOf m e .rule) k there, h .counts-are k below);
         co2e-is = ap (λ (s : Sums). a .site .gwp * s .emitted) sums;
       }
 

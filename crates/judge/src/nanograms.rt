@@ -60,7 +60,7 @@ fn share_ng(fed: u64, millionths: u64) -> u64
     fed / Loss::ALL * millionths + ceil_div(fed % Loss::ALL * millionths, Loss::ALL)
 }
 
-// x P / (2 Q air) and so many tenths of fed, at most fed. Neither x P nor ten times x would fit.
+// x P / (2 Q air) and so many tenths of fed, at most fed. Ten times x would not fit, and x P need not.
 fn measured_ng(fed: u64, tenths: u64, x: u64, air: u64) -> u64
     requires { ⌜ (fed ≤ 71600000000000) × (tenths ≤ 1) × (x ≤ 17900000000000000000) × (0 < air) × (air ≤ 210000) ⌝ }
     ensures { λ r. ⌜ r ≡ ceilDiv (min (5 * (x * P) + Q * (air * (tenths * fed))) (fed * (10 * (Q * air)))) (10 * (Q * air)) ⌝ }

@@ -1,7 +1,6 @@
 // The minute record.
 mod gas;
 mod read;
-mod write;
 
 pub use gas::Gas;
 pub use read::fields_in;
@@ -108,7 +107,7 @@ impl Minute {
     }
 
     // The verdict of a minute alone, which is out of order where no year has it.
-    fn alone(self) -> Verdict
+    pub fn alone(self) -> Verdict
         ensures { λ r. ⌜ r ≡ firstOf (aloneLines self) ⌝ }
     {
         self.verdict(Minute::MINUTES <= self.number)

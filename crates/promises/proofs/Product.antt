@@ -3,8 +3,9 @@ use Rattle.site.proofs.RoundTrip.{site-reads-back, site-writes-back}
 use Rattle.site.proofs.Unique as site
 use Rattle.minute.proofs.RoundTrip.{minute-reads-back, minute-writes-back}
 use Rattle.minute.proofs.Unique as minute
+use Rattle.writing.proofs.Unique.{write-site-one, write-minute-one}
 use Rattle.tool06.proofs.Kept.{fed-form, short-form, sign-of-F, K-is-positive, equation-seven}
-use Rattle.tool06.proofs.Sums.{no-slack, masses-cancel}
+use Rattle.tool06.proofs.Sums.{rounded-once, no-slack, masses-cancel}
 use Rattle.rules.proofs.Unique.{class-of-one}
 use Rattle.account.proofs.Accepted.{nothing-else}
 use Rattle.account.proofs.Laws.{only-opened}
@@ -30,8 +31,8 @@ one-outcome-of-calls : OneOutcomeOfCalls
 one-outcome-of-calls = record {
   reading-a-site = site.read-one;
   reading-a-minute = minute.read-one;
-  writing-a-site = site.write-one;
-  writing-a-minute = minute.write-one;
+  writing-a-site = write-site-one;
+  writing-a-minute = write-minute-one;
   classing = class-of-one;
   opening = open-one;
   adding = add-one;
@@ -56,6 +57,7 @@ product = record {
   histories = (histories, opened-stays);
   nothing-else = nothing-else;
   round-trips = (site-reads-back, site-writes-back, minute-reads-back, minute-writes-back);
+  rounded-once = rounded-once;
   examples = table-holds;
   chart-points = lossless;
   printed = (none-cut, sheet-uncut, reads-back, in-pieces);

@@ -5,9 +5,9 @@ use denote.Ref.{now, ptr}
 use denote.Slice.{slice-vals}
 use Rattle.exact.specs.One.{OneResult, OneOutcome}
 use Rattle.site.proofs.Site.read.Reads as read-site
-use Rattle.site.proofs.Site.write.Reads as write-site
+use Rattle.writing.proofs.write_site.Reads as write-site
 use Rattle.minute.proofs.Minute.read.Reads as read-minute
-use Rattle.minute.proofs.Minute.write.Reads as write-minute
+use Rattle.writing.proofs.write_minute.Reads as write-minute
 use Rattle.rules.proofs.class_of.Reads as class-of
 use Rattle.account.proofs.Account.open.Reads as open-account
 use Rattle.account.proofs.Account.add.Reads as add

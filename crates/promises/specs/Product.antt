@@ -4,7 +4,7 @@ use Rattle.records.specs.RoundTrip.{ReadsBack, WritesBack}
 use Rattle.site.specs.Promises.{siteKind}
 use Rattle.minute.specs.Promises.{minuteKind}
 use Rattle.tool06.specs.Promises.{FedForm, ShortForm, SignOfF, KPositive, EquationSeven}
-use Rattle.tool06.specs.Bounds.{NoSlack, MassesCancel}
+use Rattle.tool06.specs.Bounds.{RoundedOnce, NoSlack, MassesCancel}
 use Rattle.account.specs.Promises.{OnlyOpened, NothingElse, Lossless}
 use Rattle.history.specs.Promises.{EveryKept, Histories, OpenedStays, ByAnyMasses, DemandThree, DemandThreeBySeven}
 use Rattle.history.specs.Year.{Equation15}
@@ -33,6 +33,8 @@ pub record Product : Type 1 where
   pub nothing-else : NothingElse
   -- R85: what is written reads back, and what is read writes back
   pub round-trips : ReadsBack siteKind × WritesBack siteKind × ReadsBack minuteKind × WritesBack minuteKind
+  -- R44: each figure is rounded once, from the tool's exact fraction
+  pub rounded-once : RoundedOnce
   -- R67: the examples marked P
   pub examples : TableHolds
   -- R49: a chart point's sums without loss

@@ -1,6 +1,5 @@
 // The site record.
 mod read;
-mod write;
 
 pub use read::fields_in;
 ghost use mathlib.Core.Path.{_≡_};

@@ -7,7 +7,7 @@ use Rattle.exact.specs.Fractions.{Frac, _⊕_, whole, _≼_, _≺_}
 use Rattle.exact.proofs.Fractions.{⊕-comm, ⊕-zero, add-ac, whole-⊕}
 use Rattle.exact.proofs.Order.{≼-refl, ≺-≼, ⊕-mono, ⊕-smono}
 use Rattle.sums.specs.Bounds.{Exact, exactNone, exactSums, Bounds}
-use Rattle.sums.specs.Sums.{none, _⊞_, total}
+use Rattle.sums.specs.Sums.{noSums, _⊞_, total}
 use Rattle.sums.specs.declared.Sums.{Sums}
 
 -- x is equal to y where N is 0, and else less than N and the slack above it
@@ -84,8 +84,8 @@ no-methane minutes = record {
   together-near = omega arith;
 }
 
-pub no-bounds : Bounds none exactNone
-unfolding none
+pub no-bounds : Bounds noSums exactNone
+unfolding noSums
 no-bounds = no-methane 0
 
 -- of one entry and a list of them

@@ -3,14 +3,15 @@ use Prim.Native.Nat.{ℕ, _+_, _-_}
 use mathlib.Core.Path.{_≡_, sym, ap, _∙_}
 use mathlib.Core.Bool.{Bool}
 use mathlib.Core.List.{List, [], _∷_, _++_}
-use native.Mathlib.Nat.{add-zero, zero-add, add-comm, add-assoc}
+use native.Mathlib.Nat.{zero-add, add-comm, add-assoc}
 use native.Mathlib.Omega.{arith}
-use Rattle.sums.specs.Sums.{none, _⊞_, _⊟_, total, oneIf, count}
+use Rattle.sums.specs.Sums.{noSums, _⊞_, total, oneIf, count}
 use Rattle.sums.specs.Within.{Within}
+use Rattle.sums.specs.scaffold.Less.{_⊟_}
 use Rattle.sums.specs.declared.Sums.{Sums}
 
-pub none-⊞ : (s : Sums) → none ⊞ s ≡ s
-unfolding none _⊞_
+pub none-⊞ : (s : Sums) → noSums ⊞ s ≡ s
+unfolding noSums _⊞_
 none-⊞ s = rw (zero-add (s .minutes), zero-add (s .gas), zero-add (s .fed), zero-add (s .emitted), zero-add (s .destroyed))
 
 pub ⊞-comm : (s t : Sums) → s ⊞ t ≡ t ⊞ s
@@ -35,8 +36,8 @@ unfolding _⊞_
       add-assoc (s .destroyed) (t .destroyed) (u .destroyed),
     )
 
-pub ⊞-none : (s : Sums) → s ⊞ none ≡ s
-⊞-none s = ⊞-comm s none ∙ none-⊞ s
+pub ⊞-none : (s : Sums) → s ⊞ noSums ≡ s
+⊞-none s = ⊞-comm s noSums ∙ none-⊞ s
 
 -- a part that was put in is taken out again
 pub ⊞-⊟ : (s t : Sums) → s ⊞ t ⊟ t ≡ s
@@ -59,8 +60,8 @@ module _ {A : Type 0} where
   count-more test [] x = omega arith
   count-more test (y ∷ xs) x = let h = count-more test xs x in omega arith
 
-pub none-within : Within none
-unfolding none
+pub none-within : Within noSums
+unfolding noSums
 none-within = record { fed-within = omega arith; emitted-within = omega arith; destroyed-within = omega arith }
 
 pub plus-within : {s t : Sums} → Within s → Within t → Within (s ⊞ t)

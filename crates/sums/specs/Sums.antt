@@ -1,12 +1,12 @@
--- R46, R84: sums, put together, taken out again, and over a list of entries of any kind.
-use Prim.Native.Nat.{ℕ, _+_, _-_}
+-- R46, R84: sums, put together, and over a list of entries of any kind.
+use Prim.Native.Nat.{ℕ, _+_}
 use mathlib.Core.Bool.{Bool, true, false}
 use mathlib.Core.List.{List, [], _∷_}
 use Rattle.sums.specs.declared.Sums.{Sums}
 
--- R46: "At first all numbers are 0"
-unfoldable pub none : Sums
-none = record { minutes = 0; gas = 0; fed = 0; emitted = 0; destroyed = 0 }
+-- R46: of no minute
+unfoldable pub noSums : Sums
+noSums = record { minutes = 0; gas = 0; fed = 0; emitted = 0; destroyed = 0 }
 
 -- R46: both together, each number by itself
 infixl 6 _⊞_
@@ -19,20 +19,9 @@ s ⊞ t = record {
   destroyed = s .destroyed + t .destroyed;
 }
 
--- R46: what is left without a part that was put in
-infixl 6 _⊟_
-unfoldable pub _⊟_ : Sums → Sums → Sums
-s ⊟ t = record {
-  minutes = s .minutes - t .minutes;
-  gas = s .gas - t .gas;
-  fed = s .fed - t .fed;
-  emitted = s .emitted - t .emitted;
-  destroyed = s .destroyed - t .destroyed;
-}
-
 -- R84: the sums over a list of entries, of which each is worth w
 abbrev pub total : {A : Type 0} → (A → Sums) → List A → Sums
-total w [] = none
+total w [] = noSums
 total w (e ∷ es) = w e ⊞ total w es
 
 abbrev pub oneIf : Bool → ℕ

@@ -1,6 +1,6 @@
 // What is added up: minutes, of them those with gas, and methane in mg. One minute's worth and an account's sums are alike.
 ghost use mathlib.Core.Path.{_≡_};
-ghost use Rattle.sums.specs.Sums.{none, _⊞_};
+ghost use Rattle.sums.specs.Sums.{noSums, _⊞_};
 ghost use Rattle.sums.specs.scaffold.Fits.{Fits};
 
 pub struct Sums {
@@ -13,7 +13,7 @@ pub struct Sums {
 
 impl Sums {
     pub fn none() -> Sums
-        ensures { λ r. ⌜ r ≡ none ⌝ }
+        ensures { λ r. ⌜ r ≡ noSums ⌝ }
     {
         Sums {
             minutes: 0,

@@ -146,8 +146,8 @@ module _ (m : Masses) (pos : Positive m) {s : Site} {n : Minute} (f : Facts s n)
       )
 
   -- what the code takes for lost by a rule leaves the efficiency applied
-  abbrev Fits : Rule → Type 0
-  Fits r = Loses n (r .loss) (r .efficiency m)
+  abbrev LeavesIts : Rule → Type 0
+  LeavesIts r = Loses n (r .loss) (r .efficiency m)
 
   lost-all : Loses n allLost (whole 0)
   lost-all = by-share (F-RG-ng n) 1000000 0 F-pos refl (whole 0) none-is
@@ -160,10 +160,10 @@ module _ (m : Masses) (pos : Positive m) {s : Site} {n : Minute} (f : Facts s n)
       let l = low-within (classOf s) in
       by-share (F-RG-ng n) (100000 + 100000 * lowTenth (classOf s)) (900000 - 100000 * lowTenth (classOf s)) F-pos (omega arith) _ (default-is (classOf s))
 
-  pub rule-fits : (inTime : Bool) → Fits (theRule s n inTime)
+  pub rule-fits : (inTime : Bool) → LeavesIts (theRule s n inTime)
   unfolding theRule ruleLines
   rule-fits inTime =
-      by-rows Fits (ruleLines s n inTime) (lastRule s n) (
+      by-rows LeavesIts (ruleLines s n inTime) (lastRule s n) (
       (λ e. lost-all) ∣
       (λ e. lost-all) ∣
       (λ e. half-loses) ∣

@@ -12,7 +12,7 @@ use Rattle.site.specs.declared.Site.{Site}
 use Rattle.minute.specs.Rules.{hasGas}
 use Rattle.minute.specs.declared.Minute.{Minute}
 use Rattle.sums.specs.Sums.{oneIf}
-use Rattle.sums.specs.Within.{most, Within}
+use Rattle.sums.specs.Within.{mostMg, Within}
 use Rattle.tool06.specs.Bounds.{Entry, IsAccepted, figuresOf, worthOf}
 use Rattle.tool06.specs.Figures.{figures}
 use Rattle.tool06.specs.scaffold.Nanograms.{figuresNg}
@@ -58,18 +58,18 @@ module _ (m : Masses) (e : Entry) where
   unfolding figures
   rule-below = below-count (e .site) (e .minute) (e .inTime)
 
--- 71.6 kg at most in a minute with gas
-fed-most : (m : Masses) → Positive m → (e : Entry) → IsAccepted e → figuresOf m e .fed ≤ worthOf m e .gas * most
+-- 71.6 kg at mostMg in a minute with gas
+fed-most : (m : Masses) → Positive m → (e : Entry) → IsAccepted e → figuresOf m e .fed ≤ worthOf m e .gas * mostMg
 unfolding figuresNg
 fed-most m pos e fine = by-gas (hasGas (e .minute)) refl
   where
-    rounded : ceilDiv (F-RG-ng (e .minute)) 1000000 ≤ most
-    rounded = ceil-le (F-RG-ng (e .minute)) 1000000 most (omega arith) .1 (let h = fed-within (facts false (e .site) (e .minute) (fine .0) (fine .1)) in omega arith)
+    rounded : ceilDiv (F-RG-ng (e .minute)) 1000000 ≤ mostMg
+    rounded = ceil-le (F-RG-ng (e .minute)) 1000000 mostMg (omega arith) .1 (let h = fed-within (facts false (e .site) (e .minute) (fine .0) (fine .1)) in omega arith)
 
-    in-ng : figuresNg (e .site) (e .minute) (e .inTime) .fed ≤ most
+    in-ng : figuresNg (e .site) (e .minute) (e .inTime) .fed ≤ mostMg
     in-ng = rounded
 
-    by-gas : (gas : Bool) → hasGas (e .minute) ≡ gas → figuresOf m e .fed ≤ oneIf gas * most
+    by-gas : (gas : Bool) → hasGas (e .minute) ≡ gas → figuresOf m e .fed ≤ oneIf gas * mostMg
     by-gas true gas = rw (← same-figures m pos (facts false (e .site) (e .minute) (fine .0) (fine .1)) (e .inTime)) in-ng
     by-gas false none = let z = one-minute m pos e fine .no-gas (rw none refl) .0 in omega arith
 

@@ -3,7 +3,7 @@ use Prim.Native.Nat.{ℕ}
 use mathlib.Core.Path.{_≡_, refl, _∙_}
 use mathlib.Core.Quot.{Quot·sound}
 use mathlib.Core.List.{List, [], _∷_}
-use Rattle.exact.specs.Fractions.{Frac, _⊖_, _⊗_, _⊘_, inv, whole}
+use Rattle.exact.specs.Fractions.{Frac, _⊗_, _⊘_, inv, whole}
 use Rattle.exact.proofs.Fractions.{⊗-comm, ⊗-zero, ⊕-⊗, mul-ac}
 use Rattle.sums.specs.Bounds.{exactTotal}
 use Rattle.tool06.specs.Bounds.{Entry, emittedOf}

@@ -28,7 +28,7 @@ pub record Rule : Type 0 where
   -- R44: what the code takes for lost: no figure here goes by it, and it is proved to leave the efficiency applied
   pub loss : Loss
 
--- R19: the rule of this number, whose efficiency is applied as the tool gives it, "never rounded"
+-- R19: the rule of this number, whose efficiency is applied as the tool gives it, never rounded
 abbrev pub rule : ℕ → (Masses → Frac) → Loss → Rule
 rule k η loss = record { number = k; exactly = η; efficiency = η; loss = loss }
 
@@ -86,7 +86,7 @@ temperatureUnfit s n = outsideZ (s .temperature .lowest) (s .temperature .highes
 abbrev pub flowUnfit : Site → Minute → Bool
 flowUnfit s n = outside (s .flow .lowest) (s .flow .highest) (n .litres)
 
--- R19: the rules in their order, in which 3 stands after 6
+-- R19: the rules in their order, in which 3 stands after 6; the last column is the code's, and proved to leave the efficiency: nobody needs to believe it
 unfoldable pub ruleLines : Site → Minute → Bool → List RuleLine
 ruleLines s n inTime =
     -- R20: "no gas (0 litres)": no methane, so that any efficiency gives the same

@@ -11,7 +11,7 @@ use Rattle.minute.specs.Record.{minuteOf, minuteHeadLines}
 use Rattle.tool06.specs.Bounds.{figuresOf}
 use Rattle.tool06.specs.Judged.{judged, judgedLines}
 use Rattle.tool06.specs.declared.figures.Judged.the-variants.{Accepted, Refused}
-use Rattle.account.specs.Adding.{isFull, notNext, inTimeAt, entry, recordLines, addLines, answer}
+use Rattle.account.specs.Adding.{isFull, notNext, entry, recordLines, addLines, answer}
 use Rattle.account.proofs.Opens.{site-examined}
 use Rattle.account.proofs.Account.answer.Statement.{statement}
 use Rattle.account.proofs.Account.answer.Tie as tie

@@ -1,10 +1,10 @@
 use mathlib.Core.Path.{refl}
 use denote.Ref.{now}
 use Rattle.records.proofs.Writing.{filled-record}
 use Rattle.site.specs.Record.{siteForm, siteBytes}
 use borrow.Author.Needs.{needs}
-use Rattle.site.proofs.Site.fill.Statement.{statement}
-use Rattle.site.proofs.Site.fill.Tie as tie
+use Rattle.writing.proofs.sites.fill.Statement.{statement}
+use Rattle.writing.proofs.sites.fill.Tie as tie
 
 returns : tie.Need-returns
 unfolding siteBytes
@@ -18,7 +18,7 @@ returns c =
     let p2 = p3 .before .before .before .before in
     let p1 = p2 .before .before .before .before in
     let a = p1 .before .before .before in
-    let s = a .args .self in
+    let s = a .args .site in
     rw (
       p8 .put-u163 .ensures,
       p7 .fill-limits .ensures,

@@ -1,8 +1,8 @@
 use mir.ValLaws.{toZ-ofZ}
 use mir.Syntax.{w16}
 use borrow.Author.Needs.{needs, sfits-of}
-use Rattle.site.proofs.Site.fill_limits.Statement.{statement}
-use Rattle.site.proofs.Site.fill_limits.Tie as tie
+use Rattle.writing.proofs.sites.fill_limits.Statement.{statement}
+use Rattle.writing.proofs.sites.fill_limits.Tie as tie
 
 returns : tie.Need-returns
 returns c =
@@ -11,7 +11,7 @@ returns c =
     let p2 = p3 .before .before .before .before in
     let p1 = p2 .before .before .before .before .before .before in
     let a = p1 .before .before .before .before .before .before .before in
-    let s = a .args .self in
+    let s = a .args .site in
     rw (
       p4 .put-u322 .ensures,
       p3 .put-u32 .ensures,

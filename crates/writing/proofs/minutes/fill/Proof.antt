@@ -3,10 +3,10 @@ use mir.ValLaws.{toZ-ofZ}
 use mir.Syntax.{w16}
 use denote.Ref.{now}
 use Rattle.records.proofs.Writing.{filled-record}
 use Rattle.minute.specs.Record.{minuteForm, minuteBytes}
 use borrow.Author.Needs.{needs, sfits-of}
-use Rattle.minute.proofs.Minute.fill.Statement.{statement}
-use Rattle.minute.proofs.Minute.fill.Tie as tie
+use Rattle.writing.proofs.minutes.fill.Statement.{statement}
+use Rattle.writing.proofs.minutes.fill.Tie as tie
 
 returns : tie.Need-returns
 unfolding minuteBytes
@@ -19,7 +19,7 @@ returns c =
     let p2 = p3 .before .before .before .before in
     let p1 = p2 .before .before .before .before in
     let a = p1 .before .before .before in
-    let s = a .args .self in
+    let s = a .args .minute in
     rw (
       p7 .fill-exhaust .ensures,
       p6 .fill-gas .ensures,

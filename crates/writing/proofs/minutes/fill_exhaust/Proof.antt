@@ -1,6 +1,6 @@
 use borrow.Author.Needs.{needs}
-use Rattle.minute.proofs.Minute.fill_exhaust.Statement.{statement}
-use Rattle.minute.proofs.Minute.fill_exhaust.Tie as tie
+use Rattle.writing.proofs.minutes.fill_exhaust.Statement.{statement}
+use Rattle.writing.proofs.minutes.fill_exhaust.Tie as tie
 
 returns : tie.Need-returns
 returns c =

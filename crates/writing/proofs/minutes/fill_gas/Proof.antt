@@ -1,6 +1,6 @@
 use borrow.Author.Needs.{needs}
-use Rattle.minute.proofs.Minute.fill_gas.Statement.{statement}
-use Rattle.minute.proofs.Minute.fill_gas.Tie as tie
+use Rattle.writing.proofs.minutes.fill_gas.Statement.{statement}
+use Rattle.writing.proofs.minutes.fill_gas.Tie as tie
 
 returns : tie.Need-returns
 returns c =
