@@ -2,11 +2,11 @@
 mod act;
 mod adding;
 mod answer;
+mod fields;
 mod hearing;
 mod opening;
 mod runs;
 mod turn;
-mod writing;
 mod year;
 
 ghost use mathlib.Core.Path.{_≡_};
