@@ -5,7 +5,7 @@ ghost use Rattle.account.specs.Kept.{Kept};
 ghost use Rattle.desk.specs.Desk.{Ready};
 use crate::adding;
 use crate::adding::Grown;
-use crate::fields;
+use crate::buffers;
 use crate::opening;
 use crate::runs;
 use crate::turn::Desk;
@@ -25,13 +25,13 @@ fn of_records(call: Call, values: [usize; 15], bytes: &[u8], out: &mut [u8], at:
         Call::Site => reading::site(part(bytes, 0, values[0]), out, at),
         Call::Minute => reading::minute(part(bytes, 0, values[0]), out, at),
         Call::Class => reading::class(part(bytes, 0, values[0]), out, at),
-        Call::WriteSite => fields::write_site(values, out, at),
-        Call::WriteMinute => fields::write_minute(values, out, at),
+        Call::WriteSite => buffers::write_site(values, out, at),
+        Call::WriteMinute => buffers::write_minute(values, out, at),
         Call::Part => runs::part(u32_of(values[0]), part(bytes, 0, values[1]), out, at),
         Call::Single => {
             let site = part(bytes, 0, values[0]);
             let minute = part(bytes, SECOND_AT, values[1]);
-            fields::single(values, site, minute, out, at)
+            buffers::single(values, site, minute, out, at)
         }
         Call::Open
         | Call::Add

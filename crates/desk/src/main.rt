@@ -2,7 +2,7 @@
 mod act;
 mod adding;
 mod answer;
-mod fields;
+mod buffers;
 mod hearing;
 mod opening;
 mod runs;

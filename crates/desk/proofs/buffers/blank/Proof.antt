@@ -2,8 +2,8 @@ use Prim.Native.Nat.{_-_, _≤_}
 use mathlib.Core.Path.{_≡_}
 use lib.ListN.{length}
 use borrow.Author.Needs.{needs}
-use Rattle.desk.proofs.fields.blank.Statement.{statement}
-use Rattle.desk.proofs.fields.blank.Tie as tie
+use Rattle.desk.proofs.buffers.blank.Statement.{statement}
+use Rattle.desk.proofs.buffers.blank.Tie as tie
 
 abbrev Inv-loop : tie.InvT-loop
 Inv-loop room₀ i₀ room i = (length room ≡ length room₀) × (i ≤ length room₀)
