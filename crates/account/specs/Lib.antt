@@ -1,5 +1,4 @@
 pub mod Adding
-pub mod Closing
 pub mod Kept
 pub mod Opening
 pub mod Promises

@@ -2,19 +2,20 @@
 ghost use Prim.Native.Nat.{_≤_};
 ghost use lib.ListN.{length};
 ghost use Rattle.account.specs.Kept.{Kept};
-ghost use Rattle.desk.specs.Desk.{Ready};
-use crate::adding;
-use crate::adding::Grown;
-use crate::buffers;
-use crate::opening;
-use crate::runs;
-use crate::turn::Desk;
-use crate::turn::Turn;
-use crate::year;
+ghost use Rattle.desk_account.specs.Desk.{Ready};
 use account::Account;
+use desk_account::adding;
+use desk_account::adding::Grown;
+use desk_account::checking;
+use desk_account::opening;
+use desk_account::turn::Desk;
+use desk_account::turn::Turn;
+use desk_account::year;
+use desk_records::buffers;
+use desk_records::reading;
+use desk_records::runs;
 use forms::call::Call;
 use forms::put;
-use forms::reading;
 use forms::take::SECOND_AT;
 use forms::take::part;
 use forms::take::u32_of;
@@ -57,7 +58,7 @@ fn of_account(
     requires { ⌜ Kept account ⌝ }
 {
     match call {
-        Call::Check => runs::check(account, part(bytes, 0, values[0]), out, at),
+        Call::Check => checking::check(account, part(bytes, 0, values[0]), out, at),
         Call::Total => sheet::put_total(out, at, account),
         Call::Counts => year::counts(account, out, at),
         Call::Close => year::close(account, out, at),

@@ -1,8 +1,8 @@
 // The answer to a line.
-ghost use Rattle.desk.specs.Desk.{Ready};
+ghost use Rattle.desk_account.specs.Desk.{Ready};
 use crate::act::act;
-use crate::turn::Desk;
-use crate::turn::Turn;
+use desk_account::turn::Desk;
+use desk_account::turn::Turn;
 use forms::call::Call;
 use forms::call::call_of;
 use forms::call::words_of;

@@ -1,10 +1,10 @@
 // Lines come in chunks, which end anywhere.
 ghost use Prim.Native.Nat.{_≤_};
 ghost use lib.ListN.{length};
-ghost use Rattle.desk.specs.Desk.{Ready};
+ghost use Rattle.desk_account.specs.Desk.{Ready};
 use crate::answer::answer;
-use crate::turn::Desk;
-use crate::turn::Turn;
+use desk_account::turn::Desk;
+use desk_account::turn::Turn;
 use forms::expected;
 
 // What is heard of a line that is longer than its buffer: more than any buffer has.

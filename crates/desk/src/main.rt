@@ -1,21 +1,15 @@
 // Takes lines of text from standard input, each a call of the library, and answers each with a line on standard output.
 mod act;
-mod adding;
 mod answer;
-mod buffers;
 mod hearing;
-mod opening;
-mod runs;
-mod turn;
-mod year;
 
 ghost use mathlib.Core.Path.{_≡_};
 ghost use lib.ListN.{length};
-ghost use Rattle.desk.specs.Desk.{Ready};
+ghost use Rattle.desk_account.specs.Desk.{Ready};
 use account::Account;
+use desk_account::turn::Desk;
 use hearing::Heard;
 use hearing::listen;
-use turn::Desk;
 
 // More chunks than any input has.
 const CHUNKS: u64 = 18_446_744_073_709_551_615;

@@ -4,17 +4,17 @@ ghost use lib.ListN.{length};
 ghost use Rattle.exact.specs.Bytes.{put};
 ghost use Rattle.account.specs.Kept.{Kept};
 ghost use Rattle.lines.specs.Lines.{siteLine};
-ghost use Rattle.report.specs.Report.{ending};
+ghost use Rattle.ending.specs.Ending.{ending};
 use crate::streams::print;
 use crate::summary::print_rules;
 use account::Account;
+use ending::put_ending;
+use ending::put_refused_site;
 use minute::Minute;
 use refusals::Refusal;
 use refusals::Verdict;
 use report::Fed;
 use report::MINUTES;
-use report::put_ending;
-use report::put_refused_site;
 use tool06::Figures;
 
 // More: minutes may follow.

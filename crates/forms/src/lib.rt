@@ -1,6 +1,5 @@
-// The forms of the desk: the words that a call's line has, what is said of a line that is none, the pieces of an answer, and the answers of the calls that read a record.
+// The forms of the desk: the words that a call's line has, what is said of a line that is none, and the pieces of an answer.
 pub mod call;
 pub mod expected;
 pub mod put;
-pub mod reading;
 pub mod take;

@@ -52,9 +52,9 @@ pub fn each(out: &mut [u8], at: usize, words: &[u8], numbers: &[u32]) -> usize {
 pub fn signed(out: &mut [u8], at: usize, words: &[u8], n: i16) -> usize {
     let at = text(out, at, words);
     if n < 0 {
-        named(out, at, b"-", 65_536 - records::unsigned(n) as u64)
+        named(out, at, b"-", 65_536 - numbers::unsigned(n) as u64)
     } else {
-        number(out, at, records::unsigned(n) as u64)
+        number(out, at, numbers::unsigned(n) as u64)
     }
 }
 

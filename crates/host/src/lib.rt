@@ -23,8 +23,8 @@ fn put_u64(b: &mut [u8], k: u8, x: u64)
     requires { ⌜ k + 8 ≤ 256 ⌝ }
     ensures { λ _. ⌜ now (b .exit) ≡ put (now (b .entry)) k (bytesOf 8 x) ⌝ }
 {
-    records::put_u32(b, k, (x / 4_294_967_296) as u32);
-    records::put_u32(b, k + 4, (x % 4_294_967_296) as u32);
+    numbers::put_u32(b, k, (x / 4_294_967_296) as u32);
+    numbers::put_u32(b, k + 4, (x % 4_294_967_296) as u32);
 }
 
 fn fill(answer: &mut [u8], figures: Figures)
@@ -34,7 +34,7 @@ fn fill(answer: &mut [u8], figures: Figures)
     put_u64(answer, 0, figures.fed);
     put_u64(answer, 8, figures.emitted);
     put_u64(answer, 16, figures.destroyed);
-    records::put_byte(answer, 24, figures.rule);
+    numbers::put_byte(answer, 24, figures.rule);
 }
 
 // 0 and the answer, or the number of the first of the refusals 22, 1 to 9, the minute's 1, 2 and 12 to 19, and the buffer as it was.

@@ -1,3 +1,2 @@
 pub mod NoneCut
-pub mod Placing
 pub mod Unique

@@ -1,11 +1,12 @@
 // The lines of a minute, of a refused site and of a rule, each put into a buffer from a place on.
 ghost use mathlib.Core.Path.{_≡_};
-ghost use Prim.Native.Nat.{_+_, _-_, _≤_};
+ghost use Prim.Native.Nat.{_+_, _≤_};
 ghost use lib.ListN.{length};
+ghost use Rattle.room.specs.Places.{placed, placeAfter};
 ghost use Rattle.text.specs.Places.{PutFrom};
 ghost use Rattle.lines.specs.Lines.{methane, acceptedLine, refusedLine, minuteLine, siteLine, ruleLine};
-ghost use Rattle.lines.specs.Places.{placed, placeAfter};
 use refusals::Refusal;
+use room::room;
 use text::put_decimal;
 use text::put_text;
 use tool06::Figures;
@@ -16,13 +17,6 @@ pub const LONGEST: usize = 163;
 
 // A rule's words are no longer, so that its line is not either.
 const WORDS: usize = 80;
-
-// How many bytes there are from a place on.
-pub fn room(out: &[u8], at: usize) -> usize
-    ensures { λ r. ⌜ r ≡ length (now (out .entry)) - at ⌝ }
-{
-    if at < out.len() { out.len() - at } else { 0 }
-}
 
 // Methane in mg, of a minute or of sums.
 pub fn put_methane(out: &mut [u8], at: usize, fed: u64, emitted: u64, destroyed: u64) -> usize

@@ -29,14 +29,14 @@ fn gas_in(b: &[u8]) -> Gas
     ensures { λ r. ⌜ r ≡ minuteOf (now (b .entry)) .gas ⌝ }
 {
     Gas {
-        ch4: records::u32_at(b, 14),
-        co: records::u32_at(b, 18),
-        co2: records::u32_at(b, 22),
-        o2: records::u32_at(b, 26),
-        h2: records::u32_at(b, 30),
-        h2s: records::u32_at(b, 34),
-        nh3: records::u32_at(b, 38),
-        n2: records::u32_at(b, 42),
+        ch4: numbers::u32_at(b, 14),
+        co: numbers::u32_at(b, 18),
+        co2: numbers::u32_at(b, 22),
+        o2: numbers::u32_at(b, 26),
+        h2: numbers::u32_at(b, 30),
+        h2s: numbers::u32_at(b, 34),
+        nh3: numbers::u32_at(b, 38),
+        n2: numbers::u32_at(b, 42),
     }
 }
 
@@ -45,14 +45,14 @@ pub fn fields_in(b: &[u8]) -> Minute
     ensures { λ r. ⌜ r ≡ minuteOf (now (b .entry)) ⌝ }
 {
     let exhaust = Readings {
-        oxygen: records::u32_at(b, 46),
-        methane: records::u32_at(b, 50),
+        oxygen: numbers::u32_at(b, 46),
+        methane: numbers::u32_at(b, 50),
     };
     Minute {
-        number: records::u32_at(b, 3),
-        flags: records::byte_at(b, 7),
-        temperature: records::signed(records::u16_at(b, 8)),
-        litres: records::u32_at(b, 10),
+        number: numbers::u32_at(b, 3),
+        flags: numbers::byte_at(b, 7),
+        temperature: numbers::signed(numbers::u16_at(b, 8)),
+        litres: numbers::u32_at(b, 10),
         gas: gas_in(b),
         exhaust: exhaust,
     }

@@ -60,20 +60,20 @@ fn out_of_order(came: u32, expected: u32, site: Site) {
 }
 
 fn sum_of_fractions(record: &[u8]) -> u64 {
-    records::u32_at(record, CH4) as u64
-        + records::u32_at(record, CH4 + 4) as u64
-        + records::u32_at(record, CH4 + 8) as u64
-        + records::u32_at(record, CH4 + 12) as u64
-        + records::u32_at(record, CH4 + 16) as u64
-        + records::u32_at(record, CH4 + 20) as u64
-        + records::u32_at(record, CH4 + 24) as u64
-        + records::u32_at(record, CH4 + 28) as u64
+    numbers::u32_at(record, CH4) as u64
+        + numbers::u32_at(record, CH4 + 4) as u64
+        + numbers::u32_at(record, CH4 + 8) as u64
+        + numbers::u32_at(record, CH4 + 12) as u64
+        + numbers::u32_at(record, CH4 + 16) as u64
+        + numbers::u32_at(record, CH4 + 20) as u64
+        + numbers::u32_at(record, CH4 + 24) as u64
+        + numbers::u32_at(record, CH4 + 28) as u64
 }
 
 fn wrong_gas(refusal: Refusal, record: &[u8]) {
     match refusal {
         Refusal::Flow => {
-            say::number(b"14 FLOW: ", records::u32_at(record, LITRES) as u64);
+            say::number(b"14 FLOW: ", numbers::u32_at(record, LITRES) as u64);
             say::text(b" litres; they must be at most 100000");
         }
         Refusal::Composition => {
@@ -84,7 +84,7 @@ fn wrong_gas(refusal: Refusal, record: &[u8]) {
             say::text(b" ppm, not to 1000000");
         }
         Refusal::Methane => {
-            say::number(b"16 METHANE: CH4 is ", records::u32_at(record, CH4) as u64);
+            say::number(b"16 METHANE: CH4 is ", numbers::u32_at(record, CH4) as u64);
             say::text(b" ppm; it must not be 0, nor below CO, H2, H2S or NH3");
         }
         _ => say::text(b"19 OXYGEN: more oxygen in the gas than the equations can take"),
@@ -94,22 +94,22 @@ fn wrong_gas(refusal: Refusal, record: &[u8]) {
 fn wrong_reading(refusal: Refusal, record: &[u8]) {
     match refusal {
         Refusal::Flags => {
-            say::number(b"12 FLAGS: ", records::byte_at(record, FLAGS) as u64);
+            say::number(b"12 FLAGS: ", numbers::byte_at(record, FLAGS) as u64);
             say::text(
                 b"; they must be the sum of 1 flame seen, 2 temperature present, 4 exhaust readings present",
             );
         }
         Refusal::Temperature => {
-            let temperature = records::signed(records::u16_at(record, TEMPERATURE));
+            let temperature = numbers::signed(numbers::u16_at(record, TEMPERATURE));
             say::degrees(b"17 TEMPERATURE: ", temperature);
             say::text(b" degrees; it must be -50.0 to 1500.0, and 0 where its flag is off");
         }
         Refusal::Exhaust => {
             say::number(
                 b"18 EXHAUST: oxygen ",
-                records::u32_at(record, OXYGEN) as u64,
+                numbers::u32_at(record, OXYGEN) as u64,
             );
-            say::number(b" ppm, methane ", records::u32_at(record, METHANE) as u64);
+            say::number(b" ppm, methane ", numbers::u32_at(record, METHANE) as u64);
             say::text(
                 b" mg/m3; they must be at most 209999 and 50000, and 0 where their flag is off",
             );
@@ -136,7 +136,7 @@ fn full(record: &[u8], minutes: u32, site: Site) {
 
 // Why the record is refused with which these bytes begin, where a minute was expected.
 pub fn refused_minute(refusal: Refusal, record: &[u8], expected: u32, site: Site) {
-    let came = records::u32_at(record, NUMBER);
+    let came = numbers::u32_at(record, NUMBER);
     match refusal {
         Refusal::Length | Refusal::Version => no_minute(refusal, record, expected, site),
         Refusal::Full => full(record, expected, site),

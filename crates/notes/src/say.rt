@@ -28,7 +28,7 @@ pub(crate) fn metres(words: &[u8], mm: u32) {
 // Tenths of a degree as degrees.
 pub(crate) fn degrees(words: &[u8], tenths: i16) {
     text(words);
-    let bits = records::unsigned(tenths) as u32;
+    let bits = numbers::unsigned(tenths) as u32;
     if tenths < 0 {
         text(b"-");
         decimal(65_536 - bits);

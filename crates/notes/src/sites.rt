@@ -67,7 +67,7 @@ fn no_site(bytes: &[u8]) {
     say::text(b"flare: the site is refused, 1 LENGTH: ");
     if bytes.len() == 0 {
         say::text(b"the input is empty");
-    } else if begins_text(records::byte_at(bytes, 0)) {
+    } else if begins_text(numbers::byte_at(bytes, 0)) {
         say::text(b"the input looks like text, which examples/records.c makes into records");
     } else if bytes.len() < Site::BYTES {
         say::text(b"the input ends within the site record");

@@ -23,12 +23,12 @@ use Rattle.tool06.specs.Bounds.{figuresOf}
 use Rattle.tool06.specs.Class.{classOf}
 use Rattle.tool06.specs.Tool.{Masses}
 use Rattle.account.specs.Adding.{isFull, entry, addLines, addTo}
-use Rattle.account.specs.Closing.{co2e, closing, chart}
+use Rattle.closing.specs.Closing.{co2e, closing, chart}
 use Rattle.account.specs.Opening.{openLines, fresh, opened}
 use Rattle.account.specs.Turn.{recordsOf}
 use Rattle.account.specs.declared.Account.{Account}
 use Rattle.run.specs.Check.{checked}
-use Rattle.run.specs.Part.{dayPart}
+use Rattle.day.specs.Part.{dayPart}
 use Rattle.host.specs.Single.{singleLines, single, singleFigures, returned, answerAfter}
 use Rattle.promises.specs.Numbers.{Said, given, saidOfSite, saidOfMinute, saidOfJudged, saidOfClosed, saidOfVerdict, saidOfChecked, saidOfClass, _to_, By}
 

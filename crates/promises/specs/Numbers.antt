@@ -21,10 +21,10 @@ use Rattle.tool06.specs.declared.class.Class.the-variants.{Open, Low, Tall}
 use Rattle.tool06.specs.declared.figures.Figures.{Figures}
 use Rattle.tool06.specs.declared.figures.Judged.{Judged}
 use Rattle.tool06.specs.declared.figures.Judged.the-variants.{Accepted, Refused}
-use Rattle.account.specs.declared.close.Closed.{Closed}
-use Rattle.account.specs.declared.close.Closed.the-variants.{Tonnes, Refused as NotClosed}
-use Rattle.run.specs.declared.check.Checked.{Checked}
-use Rattle.run.specs.declared.check.Checked.the-variants.{Fine as NoneRefused, Run, At}
+use Rattle.closing.specs.declared.Closed.{Closed}
+use Rattle.closing.specs.declared.Closed.the-variants.{Tonnes, Refused as NotClosed}
+use Rattle.run.specs.declared.Checked.{Checked}
+use Rattle.run.specs.declared.Checked.the-variants.{Fine as NoneRefused, Run, At}
 
 -- R58: what comes back: a number, 0 where nothing is refused, and the values beside it, if there are any
 pub record Said (A : Type 0) : Type 0 where

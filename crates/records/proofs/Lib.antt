@@ -1,4 +1,3 @@
-pub mod Complement
 pub mod Reading
 pub mod RoundTrip
 pub mod Unique

@@ -3,43 +3,11 @@
 use mathlib.Core.Path.{refl, sym, _∙_}
 use denote.Ref.{now}
 use Rattle.exact.specs.One.{OneResult, OneOutcome}
-use Rattle.records.proofs.number.byte_at.Reads as byte-at
-use Rattle.records.proofs.number.u16_at.Reads as u16-at
-use Rattle.records.proofs.number.u32_at.Reads as u32-at
-use Rattle.records.proofs.number.put_byte.Reads as put-byte
-use Rattle.records.proofs.number.put_u16.Reads as put-u16
-use Rattle.records.proofs.number.put_u32.Reads as put-u32
-use Rattle.records.proofs.number.signed.Reads as signed
-use Rattle.records.proofs.number.unsigned.Reads as unsigned
-use Rattle.records.proofs.house.head.Reads as head
-use Rattle.records.proofs.house.put_head.Reads as put-head
-
-pub byte-at-one : (κs : _) (a : _) → OneResult (byte-at.Learnt κs a)
-byte-at-one κs a x y e f p q = p ∙ sym q
-
-pub u16-at-one : (κs : _) (a : _) → OneResult (u16-at.Learnt κs a)
-u16-at-one κs a x y e f p q = p ∙ sym q
-
-pub u32-at-one : (κs : _) (a : _) → OneResult (u32-at.Learnt κs a)
-u32-at-one κs a x y e f p q = p ∙ sym q
-
-pub signed-one : (κs : _) (a : _) → OneResult (signed.Learnt κs a)
-signed-one κs a x y e f p q = p ∙ sym q
-
-pub unsigned-one : (κs : _) (a : _) → OneResult (unsigned.Learnt κs a)
-unsigned-one κs a x y e f p q = p ∙ sym q
+use Rattle.records.proofs.head.Reads as head
+use Rattle.records.proofs.put_head.Reads as put-head
 
 pub head-one : (κs : _) (a : _) → OneResult (head.Learnt κs a)
 head-one κs a x y e f p q = p ∙ sym q
-
-pub put-byte-one : (κs : _) (a : _) → OneOutcome (λ e. now (e .0)) (put-byte.Learnt κs a)
-put-byte-one κs a x y e f p q = (refl, p ∙ sym q)
-
-pub put-u16-one : (κs : _) (a : _) → OneOutcome (λ e. now (e .0)) (put-u16.Learnt κs a)
-put-u16-one κs a x y e f p q = (refl, p ∙ sym q)
-
-pub put-u32-one : (κs : _) (a : _) → OneOutcome (λ e. now (e .0)) (put-u32.Learnt κs a)
-put-u32-one κs a x y e f p q = (refl, p ∙ sym q)
 
 pub put-head-one : (κs : _) (a : _) → OneOutcome (λ e. now (e .0)) (put-head.Learnt κs a)
 put-head-one κs a x y e f p q = (refl, p ∙ sym q)

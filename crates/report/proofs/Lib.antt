@@ -1,5 +1,4 @@
 pub mod Pieces
-pub mod Placed
 pub mod Records
 pub mod Reports
 pub mod Sofar

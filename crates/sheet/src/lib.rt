@@ -4,13 +4,13 @@ ghost use Prim.Native.Nat.{_+_, _≤_};
 ghost use lib.ListN.{length};
 ghost use Rattle.account.specs.Kept.{Kept};
 ghost use Rattle.text.specs.Places.{PutFrom};
-ghost use Rattle.lines.specs.Places.{placed, placeAfter};
+ghost use Rattle.room.specs.Places.{placed, placeAfter};
 ghost use Rattle.sheet.specs.Sheet.{sumsText, totalLine, standing, yearLine};
 use account::Account;
-use account::Closed;
+use closing::Closed;
 use lines::LONGEST;
 use lines::put_methane;
-use lines::room;
+use room::room;
 use sums::Sums;
 use text::put_decimal;
 use text::put_text;
@@ -34,7 +34,7 @@ pub fn put_total(out: &mut [u8], at: usize, account: Account) -> usize
     ensures { λ r. ⌜ (r ≡ placeAfter (now (out .entry)) at (totalLine account)) × (now (out .exit) ≡ placed (now (out .entry)) at (totalLine account)) ⌝ }
 {
     let sums = account.sums();
-    let co2e = account.co2e();
+    let co2e = closing::co2e(account);
     if LONGEST <= room(out, at) {
         let at = put_text(out, at, b"total ");
         let at = put_sums(out, at, sums, co2e);
@@ -64,7 +64,7 @@ pub fn put_year(out: &mut [u8], at: usize, account: Account) -> usize
     ensures { λ r. ⌜ (r ≡ placeAfter (now (out .entry)) at (yearLine account)) × (now (out .exit) ≡ placed (now (out .entry)) at (yearLine account)) ⌝ }
 {
     let site = account.site();
-    let closed = account.close();
+    let closed = closing::close(account);
     if LONGEST <= room(out, at) {
         let at = put_text(out, at, b"year ");
         let at = put_decimal(out, at, site.year as u64);

@@ -30,21 +30,21 @@ pub fn fields_in(b: &[u8]) -> Site
     ensures { λ r. ⌜ r ≡ siteOf (now (b .entry)) ⌝ }
 {
     let temperature = Temperatures {
-        lowest: records::signed(records::u16_at(b, 16)),
-        highest: records::signed(records::u16_at(b, 18)),
+        lowest: numbers::signed(numbers::u16_at(b, 16)),
+        highest: numbers::signed(numbers::u16_at(b, 18)),
     };
     let flow = Flows {
-        lowest: records::u32_at(b, 20),
-        highest: records::u32_at(b, 24),
+        lowest: numbers::u32_at(b, 20),
+        highest: numbers::u32_at(b, 24),
     };
     Site {
-        method: records::byte_at(b, 3),
-        year: records::u16_at(b, 4),
-        gwp: records::u16_at(b, 6),
-        height: records::u32_at(b, 8),
-        diameter: records::u32_at(b, 12),
+        method: numbers::byte_at(b, 3),
+        year: numbers::u16_at(b, 4),
+        gwp: numbers::u16_at(b, 6),
+        height: numbers::u32_at(b, 8),
+        diameter: numbers::u32_at(b, 12),
         temperature: temperature,
         flow: flow,
-        days: records::u16_at(b, 28),
+        days: numbers::u16_at(b, 28),
     }
 }

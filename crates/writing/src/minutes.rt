@@ -29,10 +29,10 @@ fn fill(minute: Minute, out: &mut [u8])
     ensures { λ _. ⌜ now (out .exit) ≡ minuteBytes minute ⌝ }
 {
     records::put_head(out, (Minute::BYTES - 2) as u16, Minute::VERSION);
-    records::put_u32(out, 3, minute.number);
-    records::put_byte(out, 7, minute.flags);
-    records::put_u16(out, 8, records::unsigned(minute.temperature));
-    records::put_u32(out, 10, minute.litres);
+    numbers::put_u32(out, 3, minute.number);
+    numbers::put_byte(out, 7, minute.flags);
+    numbers::put_u16(out, 8, numbers::unsigned(minute.temperature));
+    numbers::put_u32(out, 10, minute.litres);
     fill_gas(minute, out);
     fill_exhaust(minute, out);
 }
@@ -41,20 +41,20 @@ fn fill_gas(minute: Minute, out: &mut [u8])
     ensures { λ _. ⌜ now (out .exit) ≡ filled (take 8 (drop 4 minuteLayout)) minute (now (out .entry)) ⌝ }
 {
     let gas = minute.gas;
-    records::put_u32(out, 14, gas.ch4);
-    records::put_u32(out, 18, gas.co);
-    records::put_u32(out, 22, gas.co2);
-    records::put_u32(out, 26, gas.o2);
-    records::put_u32(out, 30, gas.h2);
-    records::put_u32(out, 34, gas.h2s);
-    records::put_u32(out, 38, gas.nh3);
-    records::put_u32(out, 42, gas.n2);
+    numbers::put_u32(out, 14, gas.ch4);
+    numbers::put_u32(out, 18, gas.co);
+    numbers::put_u32(out, 22, gas.co2);
+    numbers::put_u32(out, 26, gas.o2);
+    numbers::put_u32(out, 30, gas.h2);
+    numbers::put_u32(out, 34, gas.h2s);
+    numbers::put_u32(out, 38, gas.nh3);
+    numbers::put_u32(out, 42, gas.n2);
 }
 
 fn fill_exhaust(minute: Minute, out: &mut [u8])
     ensures { λ _. ⌜ now (out .exit) ≡ filled (drop 12 minuteLayout) minute (now (out .entry)) ⌝ }
 {
     let exhaust = minute.exhaust;
-    records::put_u32(out, 46, exhaust.oxygen);
-    records::put_u32(out, 50, exhaust.methane);
+    numbers::put_u32(out, 46, exhaust.oxygen);
+    numbers::put_u32(out, 50, exhaust.methane);
 }

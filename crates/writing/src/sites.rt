@@ -29,13 +29,13 @@ fn fill(site: Site, out: &mut [u8])
     ensures { λ _. ⌜ now (out .exit) ≡ siteBytes site ⌝ }
 {
     records::put_head(out, (Site::BYTES - 2) as u16, Site::VERSION);
-    records::put_byte(out, 3, site.method);
-    records::put_u16(out, 4, site.year);
-    records::put_u16(out, 6, site.gwp);
-    records::put_u32(out, 8, site.height);
-    records::put_u32(out, 12, site.diameter);
+    numbers::put_byte(out, 3, site.method);
+    numbers::put_u16(out, 4, site.year);
+    numbers::put_u16(out, 6, site.gwp);
+    numbers::put_u32(out, 8, site.height);
+    numbers::put_u32(out, 12, site.diameter);
     fill_limits(site, out);
-    records::put_u16(out, 28, site.days);
+    numbers::put_u16(out, 28, site.days);
 }
 
 fn fill_limits(site: Site, out: &mut [u8])
@@ -43,8 +43,8 @@ fn fill_limits(site: Site, out: &mut [u8])
 {
     let temperature = site.temperature;
     let flow = site.flow;
-    records::put_u16(out, 16, records::unsigned(temperature.lowest));
-    records::put_u16(out, 18, records::unsigned(temperature.highest));
-    records::put_u32(out, 20, flow.lowest);
-    records::put_u32(out, 24, flow.highest);
+    numbers::put_u16(out, 16, numbers::unsigned(temperature.lowest));
+    numbers::put_u16(out, 18, numbers::unsigned(temperature.highest));
+    numbers::put_u32(out, 20, flow.lowest);
+    numbers::put_u32(out, 24, flow.highest);
 }

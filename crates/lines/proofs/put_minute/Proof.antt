@@ -1,6 +1,6 @@
 use native.Mathlib.Omega.{arith}
 use borrow.Author.Needs.{needs}
-use Rattle.lines.proofs.Placing.{there, nowhere}
+use Rattle.room.proofs.Placing.{there, nowhere}
 use Rattle.lines.proofs.put_minute.Statement.{statement}
 use Rattle.lines.proofs.put_minute.Tie as tie
 

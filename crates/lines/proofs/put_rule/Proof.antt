@@ -4,7 +4,7 @@ use borrow.Author.Tests.{le-leb, lt-leb}
 use lib.ListN.{length}
 use Rattle.text.proofs.Putting.{onward}
 use Rattle.lines.specs.Lines.{ruleLine}
-use Rattle.lines.proofs.Placing.{there, nowhere, no-line}
+use Rattle.room.proofs.Placing.{there, nowhere, no-line}
 use Rattle.lines.proofs.put_rule.Statement.{statement}
 use Rattle.lines.proofs.put_rule.Tie as tie
 

@@ -2,7 +2,7 @@ use borrow.Author.Needs.{needs}
 use native.Mathlib.Omega.{arith}
 use Rattle.text.proofs.Putting.{onward}
 use Rattle.lines.specs.Lines.{siteLine}
-use Rattle.lines.proofs.Placing.{there, nowhere}
+use Rattle.room.proofs.Placing.{there, nowhere}
 use Rattle.lines.proofs.put_site.Statement.{statement}
 use Rattle.lines.proofs.put_site.Tie as tie
 

@@ -3,7 +3,7 @@ use mathlib.Core.Path.{_≡_}
 use native.Mathlib.Omega.{arith}
 use lib.ListN.{length}
 use borrow.Author.Needs.{needs}
-use Rattle.desk.specs.Desk.{Ready}
+use Rattle.desk_account.specs.Desk.{Ready}
 use Rattle.desk.proofs.hearing.hear.Statement.{statement}
 use Rattle.desk.proofs.hearing.hear.Tie as tie
 

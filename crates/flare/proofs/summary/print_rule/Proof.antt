@@ -6,9 +6,9 @@ use borrow.Author.Needs.{needs}
 use lib.ListN.{length}
 use Rattle.lines.specs.Lines.{ruleLine}
 use Rattle.text.specs.Places.{PutFrom}
-use Rattle.lines.specs.Places.{placed, placeAfter}
+use Rattle.room.specs.Places.{placed, placeAfter}
 use Rattle.lines.proofs.NoneCut.{none-cut}
-use Rattle.report.proofs.Placed.{whole}
+use Rattle.room.proofs.Placing.{whole}
 use Rattle.flare.proofs.summary.print_rule.Statement.{statement}
 use Rattle.flare.proofs.summary.print_rule.Tie as tie
 

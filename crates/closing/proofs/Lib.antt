@@ -1,0 +1,3 @@
+pub mod Lossless
+pub mod Unique
+pub mod Within

@@ -1,0 +1,102 @@
+// The calls that add minutes to an account: `add` and `fill`.
+ghost use Rattle.account.specs.Kept.{Kept};
+use account::Account;
+use account::Added;
+use forms::put;
+use forms::take::part;
+use refusals::Verdict;
+use tool06::Judged;
+
+// The account after a call, and the place after its answer.
+pub struct Grown {
+    pub account: Account,
+    pub at: usize,
+}
+
+// Adds a record; every account that the calls give stays one.
+fn add_to(account: Account, record: &[u8]) -> Added
+    requires { ⌜ Kept account ⌝ }
+    ensures { λ r. ⌜ Kept (r .account) ⌝ }
+{
+    account.add(record)
+}
+
+pub fn add(account: Account, record: &[u8], out: &mut [u8], at: usize) -> Grown
+    requires { ⌜ Kept account ⌝ }
+    ensures { λ r. ⌜ Kept (r .account) ⌝ }
+{
+    let added = add_to(account, record);
+    let answer = added.answer;
+    let grown = added.account;
+    Grown {
+        account: grown,
+        at: lines::put_minute(out, at, account.minutes(), answer),
+    }
+}
+
+// How often a record was taken, and the refusal that ended it, if one did.
+struct Filled {
+    account: Account,
+    taken: u32,
+    verdict: Verdict,
+}
+
+// Adds the record of so many bytes a number of times, each time under the minute expected, up to a refusal.
+fn fill_up(account: Account, count: u32, bytes: &mut [u8], size: usize) -> Filled
+    requires { ⌜ Kept account ⌝ }
+    ensures { λ r. ⌜ Kept (r .account) ⌝ }
+{
+    let mut current = account;
+    let mut taken: u32 = 0;
+    while taken < count {
+        numbers::put_u32(bytes, 3, current.minutes());
+        let added = add_to(current, part(bytes, 0, size));
+        let answer = added.answer;
+        if let Judged::Refused(refusal) = answer {
+            return Filled {
+                account: current,
+                taken,
+                verdict: Verdict::Refuse(refusal),
+            };
+        }
+        current = added.account;
+        taken = taken + 1;
+    }
+    Filled {
+        account: current,
+        taken,
+        verdict: Verdict::Fine,
+    }
+}
+
+fn put_filled(out: &mut [u8], at: usize, taken: u32, minute: u32, verdict: Verdict) -> usize {
+    let at = put::named(out, at, b"taken ", taken as u64);
+    match verdict {
+        Verdict::Fine => put::end(out, at),
+        Verdict::Refuse(refusal) => {
+            let at = put::named(out, at, b" minute ", minute as u64);
+            let at = put::text(out, at, b" ");
+            put::only_refused(out, at, refusal)
+        }
+    }
+}
+
+pub fn fill(
+    account: Account,
+    count: u32,
+    bytes: &mut [u8],
+    size: usize,
+    out: &mut [u8],
+    at: usize,
+) -> Grown
+    requires { ⌜ Kept account ⌝ }
+    ensures { λ r. ⌜ Kept (r .account) ⌝ }
+{
+    let filled = fill_up(account, count, bytes, size);
+    let account = filled.account;
+    let verdict = filled.verdict;
+    Grown {
+        account,
+        at: put_filled(out, at, filled.taken, account.minutes(), verdict),
+    }
+}

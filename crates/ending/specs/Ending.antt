@@ -1,0 +1,9 @@
+-- R71, R72: what the program `flare` ends with.
+use Prim.Native.Nat.{ℕ}
+use mathlib.Core.List.{List, _++_}
+use Rattle.account.specs.declared.Account.{Account}
+use Rattle.sheet.specs.Sheet.{totalLine, yearLine}
+
+-- R71, R72: after the last record: "total and year lines still follow"
+abbrev pub ending : Account → List ℕ
+ending a = totalLine a ++ yearLine a
