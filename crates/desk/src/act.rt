@@ -14,72 +14,61 @@ use desk_account::year;
 use desk_records::buffers;
 use desk_records::reading;
 use desk_records::runs;
-use forms::call::Call;
+use forms::call::ADD;
+use forms::call::CHART;
+use forms::call::CHECK;
+use forms::call::CLASS;
+use forms::call::CLOSE;
+use forms::call::COUNTS;
+use forms::call::FILL;
+use forms::call::MINUTE;
+use forms::call::OPEN;
+use forms::call::PART;
+use forms::call::SINGLE;
+use forms::call::SITE;
+use forms::call::TOTAL;
+use forms::call::WRITE_MINUTE;
+use forms::call::WRITE_SITE;
 use forms::put;
 use forms::take::SECOND_AT;
 use forms::take::part;
 use forms::take::u32_of;
 
 // The calls that need no account.
-fn of_records(call: Call, values: [usize; 15], bytes: &[u8], out: &mut [u8], at: usize) -> usize {
+fn of_records(call: usize, values: [usize; 15], bytes: &[u8], out: &mut [u8], at: usize) -> usize {
+    let record = part(bytes, 0, values[0]);
     match call {
-        Call::Site => reading::site(part(bytes, 0, values[0]), out, at),
-        Call::Minute => reading::minute(part(bytes, 0, values[0]), out, at),
-        Call::Class => reading::class(part(bytes, 0, values[0]), out, at),
-        Call::WriteSite => buffers::write_site(values, out, at),
-        Call::WriteMinute => buffers::write_minute(values, out, at),
-        Call::Part => runs::part(u32_of(values[0]), part(bytes, 0, values[1]), out, at),
-        Call::Single => {
-            let site = part(bytes, 0, values[0]);
+        SITE => reading::site(record, out, at),
+        MINUTE => reading::minute(record, out, at),
+        CLASS => reading::class(record, out, at),
+        WRITE_SITE => buffers::write_site(values, out, at),
+        WRITE_MINUTE => buffers::write_minute(values, out, at),
+        PART => runs::part(u32_of(values[0]), part(bytes, 0, values[1]), out, at),
+        SINGLE => {
             let minute = part(bytes, SECOND_AT, values[1]);
-            buffers::single(values, site, minute, out, at)
+            buffers::single(values, record, minute, out, at)
         }
-        Call::Open
-        | Call::Add
-        | Call::Fill
-        | Call::Check
-        | Call::Total
-        | Call::Counts
-        | Call::Close
-        | Call::Chart
-        | Call::None => at,
+        _ => at,
     }
 }
 
 // The calls that leave the account alone.
-fn of_account(
-    call: Call,
-    account: Account,
-    values: [usize; 15],
-    bytes: &[u8],
-    out: &mut [u8],
-    at: usize,
-) -> usize
+fn of_account(call: usize, account: Account, run: &[u8], out: &mut [u8], at: usize) -> usize
     requires { ⌜ Kept account ⌝ }
 {
     match call {
-        Call::Check => checking::check(account, part(bytes, 0, values[0]), out, at),
-        Call::Total => sheet::put_total(out, at, account),
-        Call::Counts => year::counts(account, out, at),
-        Call::Close => year::close(account, out, at),
-        Call::Chart => year::chart(account, out, at),
-        Call::Site
-        | Call::Minute
-        | Call::WriteSite
-        | Call::WriteMinute
-        | Call::Class
-        | Call::Open
-        | Call::Add
-        | Call::Fill
-        | Call::Part
-        | Call::Single
-        | Call::None => at,
+        CHECK => checking::check(account, run, out, at),
+        TOTAL => sheet::put_total(out, at, account),
+        COUNTS => year::counts(account, out, at),
+        CLOSE => year::close(account, out, at),
+        CHART => year::chart(account, out, at),
+        _ => at,
     }
 }
 
 // The calls that add to the account.
 fn of_minutes(
-    call: Call,
+    call: usize,
     account: Account,
     values: [usize; 15],
     bytes: &mut [u8],
@@ -89,7 +78,7 @@ fn of_minutes(
     requires { ⌜ Kept account ⌝ }
     ensures { λ r. ⌜ Kept (r .account) ⌝ }
 {
-    if let Call::Fill = call {
+    if call == FILL {
         return adding::fill(account, u32_of(values[0]), bytes, values[1], out, at);
     }
     adding::add(account, part(bytes, 0, values[0]), out, at)
@@ -101,7 +90,7 @@ fn no_account(out: &mut [u8], at: usize) -> usize {
 
 fn add_to(
     desk: Desk,
-    call: Call,
+    call: usize,
     values: [usize; 15],
     bytes: &mut [u8],
     out: &mut [u8],
@@ -128,18 +117,11 @@ fn add_to(
     }
 }
 
-fn ask_of(
-    desk: Desk,
-    call: Call,
-    values: [usize; 15],
-    bytes: &[u8],
-    out: &mut [u8],
-    at: usize,
-) -> usize
+fn ask_of(desk: Desk, call: usize, run: &[u8], out: &mut [u8], at: usize) -> usize
     requires { ⌜ Ready desk ⌝ }
 {
     if desk.open {
-        of_account(call, desk.account, values, bytes, out, at)
+        of_account(call, desk.account, run, out, at)
     } else {
         no_account(out, at)
     }
@@ -147,7 +129,7 @@ fn ask_of(
 
 fn without_list(
     desk: Desk,
-    call: Call,
+    call: usize,
     values: [usize; 15],
     bytes: &mut [u8],
     out: &mut [u8],
@@ -157,10 +139,10 @@ fn without_list(
     ensures { λ r. ⌜ Ready (r .desk) ⌝ }
 {
     match call {
-        Call::Add | Call::Fill => add_to(desk, call, values, bytes, out, at),
-        Call::Check | Call::Total | Call::Counts | Call::Close | Call::Chart => Turn {
+        ADD | FILL => add_to(desk, call, values, bytes, out, at),
+        CHECK | TOTAL | COUNTS | CLOSE | CHART => Turn {
             desk,
-            at: ask_of(desk, call, values, bytes, out, at),
+            at: ask_of(desk, call, part(bytes, 0, values[0]), out, at),
         },
         _ => Turn {
             desk,
@@ -172,7 +154,7 @@ fn without_list(
 // The line has the list of an `open` from where its other words end.
 pub(crate) fn act(
     desk: Desk,
-    call: Call,
+    call: usize,
     values: [usize; 15],
     line: &[u8],
     end: usize,
@@ -184,7 +166,7 @@ pub(crate) fn act(
     requires { ⌜ end ≤ length (now line) ⌝ }
     ensures { λ r. ⌜ Ready (r .desk) ⌝ }
 {
-    if let Call::Open = call {
+    if call == OPEN {
         return opening::open(desk, part(bytes, 0, values[0]), line, end, out, at);
     }
     without_list(desk, call, values, bytes, out, at)

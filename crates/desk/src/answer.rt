@@ -3,7 +3,8 @@ ghost use Rattle.desk_account.specs.Desk.{Ready};
 use crate::act::act;
 use desk_account::turn::Desk;
 use desk_account::turn::Turn;
-use forms::call::Call;
+use forms::call::NONE;
+use forms::call::OPEN;
 use forms::call::call_of;
 use forms::call::words_of;
 use forms::expected;
@@ -12,27 +13,20 @@ use forms::take::Fit;
 use forms::take::Taken;
 
 // Whether the words are all that the line has; those of `open` go on with its list.
-fn whole(call: Call, line: &[u8], taken: Taken) -> Fit {
-    if let Call::None = call {
+fn whole(call: usize, line: &[u8], taken: Taken) -> Fit {
+    if call == NONE {
         return Fit::Form;
     }
     let fit = taken.fit;
     match fit {
         Fit::Fits => {
-            if taken.end < line.len() {
-                after(call)
+            if (taken.end < line.len()) & (call != OPEN) {
+                Fit::Form
             } else {
                 Fit::Fits
             }
         }
         Fit::Form | Fit::Wrong { .. } => fit,
-    }
-}
-
-fn after(call: Call) -> Fit {
-    match call {
-        Call::Open => Fit::Fits,
-        _ => Fit::Form,
     }
 }
 
@@ -45,9 +39,9 @@ fn call(desk: Desk, line: &[u8], bytes: &mut [u8], out: &mut [u8], at: usize) ->
     let call = call_of(&line[0..end]);
     let taken = words_of(call, line, end, bytes);
     let values = taken.values;
-    let fit = whole(call, line, taken);
+    let fit = whole(call.number, line, taken);
     match fit {
-        Fit::Fits => act(desk, call, values, line, taken.end, bytes, out, at),
+        Fit::Fits => act(desk, call.number, values, line, taken.end, bytes, out, at),
         Fit::Form | Fit::Wrong { .. } => Turn {
             desk,
             at: expected::put(out, at, call, fit),

@@ -6,14 +6,14 @@ use crate::answer::answer;
 use desk_account::turn::Desk;
 use desk_account::turn::Turn;
 use forms::expected;
+use forms::pieces::LINE_END;
+use forms::pieces::end_of;
 
 // What is heard of a line that is longer than its buffer: more than any buffer has.
 const TOO_LONG: usize = 18_446_744_073_709_551_615;
 
 // Answers wait in their buffer until more do than this.
 const FULL: usize = 65_536;
-
-const LINE_END: u8 = 10;
 
 // The desk, how much of a line was heard that has no end yet, how much of the answers is not printed, whether the talk has ended, and whether all could be read and printed.
 pub(crate) struct Heard {
@@ -22,21 +22,6 @@ pub(crate) struct Heard {
     pub at: usize,
     pub ended: bool,
     pub well: bool,
-}
-
-// Where a line ends in a chunk: at the next line end from a place on, or with the chunk.
-fn line_end(chunk: &[u8], from: usize) -> usize
-    requires { ⌜ from ≤ length (now chunk) ⌝ }
-    ensures { λ r. ⌜ (from ≤ r) × (r ≤ length (now (chunk .entry))) ⌝ }
-{
-    let mut i = from;
-    while i < chunk.len() {
-        if chunk[i] == LINE_END {
-            return i;
-        }
-        i = i + 1;
-    }
-    i
 }
 
 // Keeps more of a line behind what was heard of it.
@@ -146,7 +131,7 @@ fn hear(heard: Heard, chunk: &[u8], line: &mut [u8], bytes: &mut [u8], out: &mut
     let mut current = heard;
     let mut from: usize = 0;
     while from < chunk.len() {
-        let end = line_end(chunk, from);
+        let end = end_of(chunk, from, LINE_END);
         current.length = keep(line, current.length, &chunk[from..end]);
         if end == chunk.len() {
             return current;

@@ -2,7 +2,7 @@
 ghost use Rattle.account.specs.Kept.{Kept};
 use account::Account;
 use account::Added;
-use forms::put;
+use forms::answer::answer;
 use forms::take::part;
 use refusals::Verdict;
 use tool06::Judged;
@@ -70,14 +70,14 @@ fn fill_up(account: Account, count: u32, bytes: &mut [u8], size: usize) -> Fille
 }
 
 fn put_filled(out: &mut [u8], at: usize, taken: u32, minute: u32, verdict: Verdict) -> usize {
-    let at = put::named(out, at, b"taken ", taken as u64);
     match verdict {
-        Verdict::Fine => put::end(out, at),
-        Verdict::Refuse(refusal) => {
-            let at = put::named(out, at, b" minute ", minute as u64);
-            let at = put::text(out, at, b" ");
-            put::only_refused(out, at, refusal)
-        }
+        Verdict::Fine => answer(out, at, b"taken %u\n", &[taken as u64]),
+        Verdict::Refuse(refusal) => answer(
+            out,
+            at,
+            b"taken %u minute %u refused %u\n",
+            &[taken as u64, minute as u64, refusal.number() as u64],
+        ),
     }
 }
 

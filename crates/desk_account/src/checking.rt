@@ -1,6 +1,7 @@
 // The call for a run of records, `check`.
 ghost use Rattle.account.specs.Kept.{Kept};
 use account::Account;
+use forms::answer::answer;
 use forms::put;
 use run::Checked;
 
@@ -9,16 +10,16 @@ pub fn check(account: Account, records: &[u8], out: &mut [u8], at: usize) -> usi
 {
     match run::check_run(account, records) {
         Checked::Fine => put::text(out, at, b"fine\n"),
-        Checked::Run(refusal) => put::only_refused(out, at, refusal),
+        Checked::Run(refusal) => put::refused(out, at, refusal),
         Checked::At {
             day,
             minute,
             refusal,
-        } => {
-            let at = put::named(out, at, b"day ", day as u64);
-            let at = put::named(out, at, b" minute ", minute as u64);
-            let at = put::text(out, at, b" ");
-            put::only_refused(out, at, refusal)
-        }
+        } => answer(
+            out,
+            at,
+            b"day %u minute %u refused %u\n",
+            &[day as u64, minute as u64, refusal.number() as u64],
+        ),
     }
 }

@@ -5,7 +5,7 @@ ghost use Rattle.desk_account.specs.Desk.{Ready};
 use crate::turn::Desk;
 use crate::turn::Turn;
 use account::Account;
-use forms::call::Call;
+use forms::call::call_of;
 use forms::expected;
 use forms::put;
 use forms::take::Fit;
@@ -18,8 +18,8 @@ use words::Number;
 // One day more than may be listed: a list of more is refused whatever they are, so its first 65 stand for it.
 const DAYS: usize = 65;
 
-// The day's place in the form `open HEX [days DAY ..]`.
-const DAY: usize = 2;
+// The day's place in the row of `open`, whose form is `open HEX [days DAY ..]`.
+const DAY: usize = 3;
 
 struct Listed {
     days: [i16; 65],
@@ -104,7 +104,7 @@ fn with_site(desk: Desk, site: Site, days: &[i16], out: &mut [u8], at: usize) ->
         },
         Verdict::Refuse(refusal) => Turn {
             desk,
-            at: put::only_refused(out, at, refusal),
+            at: put::refused(out, at, refusal),
         },
     }
 }
@@ -117,7 +117,7 @@ fn with_list(desk: Desk, record: &[u8], days: &[i16], out: &mut [u8], at: usize)
         SiteRead::Fields(site) => with_site(desk, site, days, out, at),
         SiteRead::Refused(refusal) => Turn {
             desk,
-            at: put::only_refused(out, at, refusal),
+            at: put::refused(out, at, refusal),
         },
     }
 }
@@ -138,7 +138,7 @@ pub fn open(desk: Desk, record: &[u8], line: &[u8], end: usize, out: &mut [u8], 
         }
         Fit::Form | Fit::Wrong { .. } => Turn {
             desk,
-            at: expected::put(out, at, Call::Open, fit),
+            at: expected::put(out, at, call_of(b"open"), fit),
         },
     }
 }

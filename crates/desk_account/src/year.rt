@@ -2,13 +2,15 @@
 ghost use Rattle.account.specs.Kept.{Kept};
 use account::Account;
 use closing::Closed;
+use forms::answer::answer;
 use forms::put;
 
 pub fn counts(account: Account, out: &mut [u8], at: usize) -> usize
     requires { ⌜ Kept account ⌝ }
 {
     let counts = account.counts();
-    let at = put::each(out, at, b"counts", &counts);
+    let at = put::text(out, at, b"counts");
+    let at = put::each(out, at, &counts);
     put::end(out, at)
 }
 
@@ -17,7 +19,7 @@ pub fn close(account: Account, out: &mut [u8], at: usize) -> usize
 {
     match closing::close(account) {
         Closed::Tonnes(_) => sheet::put_year(out, at, account),
-        Closed::Refused(refusal) => put::only_refused(out, at, refusal),
+        Closed::Refused(refusal) => put::refused(out, at, refusal),
     }
 }
 
@@ -30,9 +32,6 @@ pub fn chart(account: Account, out: &mut [u8], at: usize) -> usize
     requires { ⌜ Kept account ⌝ }
 {
     let point = closing::chart(account);
-    let at = put::text(out, at, b"chart ");
-    let at = put::bits(out, at, bits_of(point.fed));
-    let at = put::text(out, at, b" ");
-    let at = put::bits(out, at, bits_of(point.co2e));
-    put::end(out, at)
+    let values = [bits_of(point.fed), bits_of(point.co2e)];
+    answer(out, at, b"chart %x %x\n", &values)
 }

@@ -1,4 +1,5 @@
 // The calls that write into a lent buffer: `write-site`, `write-minute` and `single`, the C call. The buffer holds a5 before.
+use forms::answer::answer;
 use forms::put;
 use forms::take::u32_of;
 use minute::Gas;
@@ -34,7 +35,7 @@ fn i16_of(value: usize) -> i16 {
 fn put_verdict(out: &mut [u8], at: usize, verdict: Verdict) -> usize {
     match verdict {
         Verdict::Fine => put::text(out, at, b"wrote"),
-        Verdict::Refuse(refusal) => put::refused(out, at, refusal),
+        Verdict::Refuse(refusal) => answer(out, at, b"refused %u", &[refusal.number() as u64]),
     }
 }
 

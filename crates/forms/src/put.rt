@@ -1,5 +1,6 @@
 // An answer is put into a buffer piece by piece; each call answers the place after what it put. A piece for which there is no room is left out; the desk's buffer has room for the longest answer.
 ghost use Prim.Native.Nat.{_<_};
+use crate::answer::answer;
 use refusals::Refusal;
 
 // No number has more digits.
@@ -27,35 +28,20 @@ pub fn number(out: &mut [u8], at: usize, n: u64) -> usize {
     at
 }
 
-// Words, and a number after them.
-pub fn named(out: &mut [u8], at: usize, words: &[u8], n: u64) -> usize {
-    let at = text(out, at, words);
-    number(out, at, n)
-}
-
 fn number_at(numbers: &[u32], i: usize) -> u32 {
     if i < numbers.len() { numbers[i] } else { 0 }
 }
 
-// Words, and each of these numbers after a space.
-pub fn each(out: &mut [u8], at: usize, words: &[u8], numbers: &[u32]) -> usize {
-    let mut at = text(out, at, words);
+// Each of these numbers after a space.
+pub fn each(out: &mut [u8], at: usize, numbers: &[u32]) -> usize {
+    let mut at = at;
     let mut i: usize = 0;
     while i < numbers.len() {
-        at = named(out, at, b" ", number_at(numbers, i) as u64);
+        at = text(out, at, b" ");
+        at = number(out, at, number_at(numbers, i) as u64);
         i = i + 1;
     }
     at
-}
-
-// Words, and after them a number that may be below zero.
-pub fn signed(out: &mut [u8], at: usize, words: &[u8], n: i16) -> usize {
-    let at = text(out, at, words);
-    if n < 0 {
-        named(out, at, b"-", 65_536 - numbers::unsigned(n) as u64)
-    } else {
-        number(out, at, numbers::unsigned(n) as u64)
-    }
 }
 
 fn glyph(digit: u8) -> u8
@@ -81,19 +67,7 @@ pub fn hex(out: &mut [u8], at: usize, bytes: &[u8]) -> usize {
     at
 }
 
-// 64 bits in hexadecimal, all sixteen digits.
-pub fn bits(out: &mut [u8], at: usize, n: u64) -> usize {
-    let mut digits = [0u8; 16];
-    let count = io::hex(n, 16, &mut digits);
-    text(out, at, &digits[0..count])
-}
-
-pub fn refused(out: &mut [u8], at: usize, refusal: Refusal) -> usize {
-    named(out, at, b"refused ", refusal.number() as u64)
-}
-
 // A refusal that is all of the answer.
-pub fn only_refused(out: &mut [u8], at: usize, refusal: Refusal) -> usize {
-    let at = refused(out, at, refusal);
-    end(out, at)
+pub fn refused(out: &mut [u8], at: usize, refusal: Refusal) -> usize {
+    answer(out, at, b"refused %u\n", &[refusal.number() as u64])
 }

@@ -3,26 +3,24 @@ ghost use Prim.Native.Nat.{_≤_};
 ghost use lib.ListN.{length};
 use words::Number;
 
-// The kinds of words: a number of one, two or four bytes, one of two bytes with a sign, or bytes in hexadecimal.
-pub const BYTE: u8 = 49;
+// The kinds of words: a number of one or two bytes and, by any other letter, of four; one of two bytes with a sign; bytes in hexadecimal.
+const BYTE: u8 = 49;
 
-pub const WORD: u8 = 50;
-
-pub const LONG: u8 = 52;
+const WORD: u8 = 50;
 
 pub const SIGNED: u8 = 115;
 
-pub const HEX: u8 = 120;
+pub(crate) const HEX: u8 = 120;
 
 // The bytes of a second record stand apart from the first one's.
-pub const SECOND: u8 = 121;
+pub(crate) const SECOND: u8 = 121;
 
 pub const SECOND_AT: usize = 160_000;
 
 // No call has more words.
 const MOST: usize = 15;
 
-// Whether the words are as the call's form has them: a word is missing or left over, or one is not of its kind.
+// Whether the words are as the call's form has them: a word is missing or left over, or the one at a place of the call's row is not of its kind.
 pub enum Fit {
     Fits,
     Form,
@@ -58,15 +56,21 @@ fn of_hex(word: &[u8], bytes: &mut [u8], at: usize) -> Value {
     Value::Wrong
 }
 
+// The most that a number without a sign may be.
+pub(crate) fn most_of(kind: u8) -> u32 {
+    match kind {
+        BYTE => 255,
+        WORD => 65_535,
+        _ => 4_294_967_295,
+    }
+}
+
 fn value_of(word: &[u8], kind: u8, bytes: &mut [u8]) -> Value {
     match kind {
-        BYTE => of_number(words::number_in(word, 255)),
-        WORD => of_number(words::number_in(word, 65_535)),
-        LONG => of_number(words::number_in(word, 4_294_967_295)),
-        SIGNED => of_number(words::signed_in(word)),
         HEX => of_hex(word, bytes, 0),
         SECOND => of_hex(word, bytes, SECOND_AT),
-        _ => Value::Wrong,
+        SIGNED => of_number(words::signed_in(word)),
+        _ => of_number(words::number_in(word, most_of(kind))),
     }
 }
 
@@ -93,7 +97,10 @@ pub fn take(line: &[u8], end: usize, kinds: &[u8], bytes: &mut [u8]) -> Taken
             Value::Wrong => return Taken {
                 values,
                 end,
-                fit: Fit::Wrong { place, kind },
+                fit: Fit::Wrong {
+                    place: place + 1,
+                    kind,
+                },
             },
             Value::Is(value) => {
                 if place < MOST {

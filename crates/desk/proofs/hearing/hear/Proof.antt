@@ -44,7 +44,7 @@ loop-again c =
       omega (arith, e .end-line .kept .1 .1 .0, l .inv .1),
       omega (arith, e .end-line .kept .1 .1 .1 .0, l .inv .2),
       e .end-line .ensures,
-      omega (arith, k .before .before .before .line-end .ensures .1, e .before .before .before .before .if1 .left),
+      omega (arith, k .before .before .before .end-of .ensures .1, e .before .before .before .before .if1 .left),
     )
 
 pub hear-spec : {M : Type 1} → statement M

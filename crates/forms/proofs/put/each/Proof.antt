@@ -6,10 +6,10 @@ use Rattle.forms.proofs.put.each.Statement.{statement}
 use Rattle.forms.proofs.put.each.Tie as tie
 
 abbrev Inv-loop : tie.InvT-loop
-Inv-loop out₀ at words numbers at₀ i₀ t7 out at' i = (length out ≡ length out₀) × (i ≤ length numbers)
+Inv-loop out₀ at numbers at₀ i₀ t6 out at' i = (length out ≡ length out₀) × (i ≤ length numbers)
 
 abbrev μ-loop : tie.MeasureT-loop
-μ-loop out₀ at words numbers at₀ i₀ t7 out at' i = length numbers - i
+μ-loop out₀ at numbers at₀ i₀ t6 out at' i = length numbers - i
 
 pub each-spec : {M : Type 1} → statement M
 each-spec =
@@ -17,9 +17,9 @@ each-spec =
     (tie.spec
     Inv-loop
     μ-loop
+    (λ c. search needs)
+    (λ c. search needs)
     (λ c κs. search needs)
-    (λ c. search needs)
-    (λ c. search needs)
     (λ c κs. search needs)
     (λ c. search needs)
     (λ c κs. search needs)

@@ -1,17 +1,17 @@
 use Prim.Native.Nat.{_-_, _≤_}
 use lib.ListN.{length}
 use borrow.Author.Needs.{needs}
-use Rattle.desk.proofs.hearing.line_end.Statement.{statement}
-use Rattle.desk.proofs.hearing.line_end.Tie as tie
+use Rattle.forms.proofs.pieces.end_of.Statement.{statement}
+use Rattle.forms.proofs.pieces.end_of.Tie as tie
 
 abbrev Inv-loop : tie.InvT-loop
-Inv-loop chunk from i₀ i = (from ≤ i) × (i ≤ length chunk)
+Inv-loop text from mark i₀ i = (from ≤ i) × (i ≤ length text)
 
 abbrev μ-loop : tie.MeasureT-loop
-μ-loop chunk from i₀ i = length chunk - i
+μ-loop text from mark i₀ i = length text - i
 
-pub line-end-spec : {M : Type 1} → statement M
-line-end-spec =
+pub end-of-spec : {M : Type 1} → statement M
+end-of-spec =
     tie.close
     (tie.spec
     Inv-loop
