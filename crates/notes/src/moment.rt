@@ -2,6 +2,9 @@
 use crate::say;
 use site::Site;
 
+// How many days the last month has.
+const DECEMBER: u32 = 31;
+
 // The month from 1, and the day of it from 0.
 struct Date {
     month: u32,
@@ -16,6 +19,7 @@ fn days_in(month: u32, year: u16) -> u32 {
     }
 }
 
+// A day behind the year's last is one that December does not have.
 fn date_of(day: u32, year: u16) -> Date {
     let mut month: u32 = 1;
     let mut left = day;
@@ -33,16 +37,16 @@ fn date_of(day: u32, year: u16) -> Date {
     }
 }
 
-// As in `minute 100 (2027-01-01 01:40)`; a minute that the site's year does not have is only a number.
-pub(crate) fn minute(words: &[u8], minute: u32, site: Site) {
+// As in `minute 100 (2027-01-01 01:40)`; a minute that the year does not have is only a number.
+pub(crate) fn minute(words: &[u8], minute: u32, year: u16) {
+    let date = date_of(minute / Site::DAY_MINUTES, year);
     say::number(words, minute as u64);
-    if minute < site.minutes() {
-        let date = date_of(minute / Site::DAY_MINUTES, site.year);
-        say::number(b" (", site.year as u64);
-        say::pair(b"-", date.month as u64);
-        say::pair(b"-", date.day as u64 + 1);
-        say::pair(b" ", (minute / 60 % 24) as u64);
-        say::pair(b":", (minute % 60) as u64);
+    if date.day < DECEMBER {
+        say::number(b" (", year as u64);
+        say::pair(b"-", date.month);
+        say::pair(b"-", date.day + 1);
+        say::pair(b" ", minute / 60 % 24);
+        say::pair(b":", minute % 60);
         say::text(b")");
     }
 }

@@ -8,20 +8,39 @@ pub(crate) fn number(words: &[u8], n: u64) {
     io::print_decimal(libc::STDERR_FILENO, n);
 }
 
-// In two digits, as hours and minutes are.
-pub(crate) fn pair(words: &[u8], n: u64) {
-    text(words);
-    if n < 10 {
-        text(b"0");
+pub(crate) fn between(before: &[u8], n: u64, after: &[u8]) {
+    number(before, n);
+    text(after);
+}
+
+// One of several lines, which are counted from 1, without its end.
+pub(crate) fn line(lines: &[u8], line: u8) {
+    let mut start: usize = 0;
+    let mut left = line;
+    let mut at: usize = 0;
+    while at < lines.len() {
+        if lines[at] == b'\n' {
+            if left <= 1 {
+                text(&lines[start..at]);
+                return;
+            }
+            left = left - 1;
+            start = at + 1;
+        }
+        at = at + 1;
     }
-    number(b"", n);
+}
+
+// In two digits, as hours and minutes are.
+pub(crate) fn pair(words: &[u8], n: u32) {
+    number(words, (n / 10) as u64);
+    number(b"", (n % 10) as u64);
 }
 
 // Millimetres as metres.
 pub(crate) fn metres(words: &[u8], mm: u32) {
     number(words, (mm / 1000) as u64);
-    number(b".", (mm / 100 % 10) as u64);
-    number(b"", (mm / 10 % 10) as u64);
+    pair(b".", mm / 10 % 100);
     number(b"", (mm % 10) as u64);
 }
 
@@ -30,14 +49,13 @@ pub(crate) fn degrees(words: &[u8], tenths: i16) {
     text(words);
     let bits = numbers::unsigned(tenths) as u32;
     if tenths < 0 {
-        text(b"-");
-        decimal(65_536 - bits);
+        decimal(b"-", 65_536 - bits);
     } else {
-        decimal(bits);
+        decimal(b"", bits);
     }
 }
 
-fn decimal(tenths: u32) {
-    number(b"", (tenths / 10) as u64);
+fn decimal(sign: &[u8], tenths: u32) {
+    number(sign, (tenths / 10) as u64);
     number(b".", (tenths % 10) as u64);
 }

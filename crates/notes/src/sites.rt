@@ -1,33 +1,44 @@
 // The site in words, and why one is refused.
 use crate::say;
 use refusals::Refusal;
+use site::Flows;
 use site::Site;
+use site::Temperatures;
 use tool06::Class;
 
-fn class(site: Site) {
-    let class = rules::class_of(site);
+fn place_of(class: Class) -> u8 {
     match class {
-        Class::Open => say::text(b"open flare ("),
-        Class::Low => say::text(b"low flare ("),
-        Class::Tall => say::text(b"tall flare ("),
+        Class::Open => 1,
+        Class::Low => 2,
+        Class::Tall => 3,
     }
-    say::metres(b"", site.height);
-    say::metres(b" m on ", site.diameter);
+}
+
+fn enclosure(class: Class, height: u32, diameter: u32) {
+    say::line(b"open\nlow\ntall\n", place_of(class));
+    say::metres(b" flare (", height);
+    say::metres(b" m on ", diameter);
     say::text(b" m), ");
 }
 
-fn method(site: Site) {
-    if site.method == Site::DEFAULT {
+fn method(method: u8, days: u16) {
+    if method == Site::DEFAULT {
         say::text(b"default method");
-    } else if site.method == Site::MEASURED {
+    } else if method == Site::MEASURED {
         say::text(b"measured each minute");
     } else {
-        say::number(b"method ", site.method as u64);
+        say::number(b"method ", method as u64);
     }
-    if 0 < site.days {
-        say::number(b", ", site.days as u64);
-        say::text(b" days between maintenance");
+    if 0 < days {
+        say::between(b", ", days as u64, b" days between maintenance");
     }
+}
+
+fn specification(temperature: Temperatures, flow: Flows) {
+    say::degrees(b", ", temperature.lowest);
+    say::degrees(b" to ", temperature.highest);
+    say::number(b" degrees, ", flow.lowest as u64);
+    say::between(b" to ", flow.highest as u64, b" litres a minute\n");
 }
 
 // How the site was understood, so that a wrong unit or a field in another's place shows.
@@ -35,24 +46,20 @@ pub fn understood(site: Site) {
     let temperature = site.temperature;
     let flow = site.flow;
     say::text(b"flare: site: ");
-    class(site);
-    method(site);
+    enclosure(rules::class_of(site), site.height, site.diameter);
+    method(site.method, site.days);
     say::number(b", ", site.year as u64);
     say::number(b", GWP ", site.gwp as u64);
-    say::degrees(b", ", temperature.lowest);
-    say::degrees(b" to ", temperature.highest);
-    say::number(b" degrees, ", flow.lowest as u64);
-    say::number(b" to ", flow.highest as u64);
-    say::text(b" litres a minute\n");
+    specification(temperature, flow);
 }
 
 // What a measured flare's total is worth without maintenance days.
 pub fn overdue(minutes: u32) {
-    say::number(
+    say::between(
         b"flare: THIS TOTAL IS NOT THE SITE'S. A measured flare was judged without maintenance days; minutes that count as overdue (rule 7): ",
         minutes as u64,
+        b"; examples/desk.py takes the days (README.md, A measured flare)\n",
     );
-    say::text(b"; examples/desk.py takes the days (README.md, A measured flare)\n");
 }
 
 // Whether a byte begins a text: printable, a line's end, or a mark of how the text is encoded.
@@ -63,43 +70,41 @@ fn begins_text(first: u8) -> bool {
     }
 }
 
-fn no_site(bytes: &[u8]) {
-    say::text(b"flare: the site is refused, 1 LENGTH: ");
-    if bytes.len() == 0 {
-        say::text(b"the input is empty");
-    } else if begins_text(numbers::byte_at(bytes, 0)) {
-        say::text(b"the input looks like text, which examples/records.c makes into records");
-    } else if bytes.len() < Site::BYTES {
-        say::text(b"the input ends within the site record");
+// Which line of no_site tells of so many bytes.
+fn place_in_no_site(bytes: usize, text: bool) -> u8 {
+    if bytes == 0 {
+        1
+    } else if text {
+        2
+    } else if bytes < Site::BYTES {
+        3
     } else {
-        say::text(b"the input does not begin with a site record");
+        4
     }
+}
+
+fn no_site(bytes: &[u8]) {
+    let text = begins_text(numbers::byte_at(bytes, 0));
+    say::text(b"flare: the site is refused, 1 LENGTH: the input ");
+    say::line(
+        b"is empty\nlooks like text, which examples/records.c makes into records\nends within the site record\ndoes not begin with a site record\n",
+        place_in_no_site(bytes.len(), text),
+    );
     say::text(
         b"; a record file begins with a site record of 30 bytes, the first three 00 1c 01 (README.md, The records)\n",
     );
 }
 
-fn wrong_field(refusal: Refusal) {
-    match refusal {
-        Refusal::Version => say::text(
-            b"2 VERSION: the third byte is not 1; export the records in version 1",
-        ),
-        Refusal::Method => say::text(
-            b"3 METHOD: 0 is the default method and 1 is measured each minute",
-        ),
-        Refusal::Year => say::text(b"4 YEAR: 2000 to 2099"),
-        Refusal::Gwp => say::text(b"5 GWP: 1 to 100"),
-        Refusal::Size => say::text(b"6 SIZE: height up to 100000 mm, diameter 1 to 100000 mm"),
-        Refusal::Spec => say::text(
-            b"7 SPEC: temperatures of -50.0 to 1500.0 degrees and flows of up to 100000 litres, the lowest not above the highest",
-        ),
-        Refusal::Open => say::text(
-            b"8 OPEN: a flare at most twice as high as wide is open, and an open one cannot be measured",
-        ),
-        Refusal::Schedule => say::text(
-            b"9 SCHEDULE: days between maintenance up to 3660, and when measured at least 1",
-        ),
-        _ => say::number(b"", refusal.number() as u64),
+// By its number. LENGTH is told by no_site, and those from LIST on are not of a site.
+fn wrong_field(refusal: u8) {
+    say::text(b"flare: the site is refused, ");
+    if refusal < 10 {
+        say::line(
+            b"1\n2 VERSION: the third byte is not 1; export the records in version 1\n3 METHOD: 0 is the default method and 1 is measured each minute\n4 YEAR: 2000 to 2099\n5 GWP: 1 to 100\n6 SIZE: height up to 100000 mm, diameter 1 to 100000 mm\n7 SPEC: temperatures of -50.0 to 1500.0 degrees and flows of up to 100000 litres, the lowest not above the highest\n8 OPEN: a flare at most twice as high as wide is open, and an open one cannot be measured\n9 SCHEDULE: days between maintenance up to 3660, and when measured at least 1\n",
+            refusal,
+        );
+    } else {
+        say::number(b"", refusal as u64);
     }
     say::text(b"\n");
 }
@@ -109,11 +114,11 @@ pub fn refused_site(refusal: Refusal, bytes: &[u8]) {
     match refusal {
         Refusal::Length => no_site(bytes),
         _ => {
-            if 2 < refusal.number() {
+            let number = refusal.number();
+            if 2 < number {
                 understood(site::fields_in(bytes));
             }
-            say::text(b"flare: the site is refused, ");
-            wrong_field(refusal);
+            wrong_field(number);
         }
     }
 }
