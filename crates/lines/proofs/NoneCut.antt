@@ -1,16 +1,13 @@
 -- No line is cut: each is its pieces, and each piece has so many bytes at most.
 use Prim.Native.Nat.{ℕ, _≤_}
-use mathlib.Core.List.{List}
-use native.Mathlib.Decide.{decLe}
 use native.Mathlib.Omega.{arith}
-use borrow.Author.Tests.{le-leb, lt-leb}
 use lib.ListN.{length, length-append}
 use Rattle.refusals.specs.Refusals.{numberOf}
 use Rattle.refusals.specs.declared.refusal.Refusal.{Refusal}
 use Rattle.tool06.specs.declared.figures.Judged.{Judged}
 use Rattle.tool06.specs.declared.figures.Judged.the-variants.{Accepted, Refused}
 use Rattle.text.proofs.Decimals.{decimal-within}
-use Rattle.lines.specs.Lines.{methane, acceptedLine, refusedLine, minuteLine, siteLine, ruleLine}
+use Rattle.lines.specs.Lines.{methane, acceptedLine, refusedLine, minuteLine, siteLine}
 use Rattle.lines.specs.Promises.{NoneCut}
 
 pub methane-within : (fed emitted destroyed : ℕ) → length (methane fed emitted destroyed) ≤ 85
@@ -29,13 +26,5 @@ site-within : (r : Refusal) → length (siteLine r) ≤ 163
 unfolding siteLine
 site-within r = simp length-append (omega (arith, decimal-within (numberOf r)))
 
-rule-within : (rule minutes : ℕ) (words : List ℕ) → length (ruleLine rule minutes words) ≤ 163
-unfolding ruleLine
-rule-within rule minutes words = by-length (decLe (length words) 80)
-  where
-    by-length : Dec (length words ≤ 80) → length (ruleLine rule minutes words) ≤ 163
-    by-length (yes short) = rw (le-leb (length words) 80 short) (simp length-append (omega (arith, decimal-within rule, decimal-within minutes)))
-    by-length (no long) = rw (lt-leb (length words) 80 (omega arith)) (omega arith)
-
 pub none-cut : NoneCut
-none-cut = record { minute = minute-within; site = site-within; rule = rule-within }
+none-cut = record { minute = minute-within; site = site-within }

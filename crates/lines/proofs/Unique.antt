@@ -6,16 +6,12 @@ use Rattle.exact.specs.One.{OneOutcome}
 use Rattle.lines.proofs.put_methane.Reads as put-methane
 use Rattle.lines.proofs.put_minute.Reads as put-minute
 use Rattle.lines.proofs.put_site.Reads as put-site
-use Rattle.lines.proofs.put_rule.Reads as put-rule
 
 pub put-minute-one : (κs : _) (a : _) → OneOutcome (λ e. now (e .0)) (put-minute.Learnt κs a)
 put-minute-one κs a x y e f p q = (p .0 ∙ sym (q .0), p .1 ∙ sym (q .1))
 
 pub put-site-one : (κs : _) (a : _) → OneOutcome (λ e. now (e .0)) (put-site.Learnt κs a)
 put-site-one κs a x y e f p q = (p .0 ∙ sym (q .0), p .1 ∙ sym (q .1))
-
-pub put-rule-one : (κs : _) (a : _) → OneOutcome (λ e. now (e .0)) (put-rule.Learnt κs a)
-put-rule-one κs a x y e f p q = (p .0 ∙ sym (q .0), p .1 ∙ sym (q .1))
 
 pub put-methane-one : (κs : _) (a : _) → OneOutcome (λ e. now (e .0)) (put-methane.Learnt κs a)
 put-methane-one κs a x y e f p q = (p .0 .place ∙ sym (q .0 .place), p .0 .holds ∙ sym (q .0 .holds))

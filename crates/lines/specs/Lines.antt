@@ -1,9 +1,6 @@
--- R69, R70, R73, R77: the lines of a minute, of a refused site and of a rule.
+-- R69, R70, R73: the lines of a minute and of a refused site.
 use Prim.Native.Nat.{ℕ}
-use mathlib.Core.Bool.{cond}
-use mathlib.Core.List.{List, [], _++_}
-use lib.Dec.{leb}
-use lib.ListN.{length}
+use mathlib.Core.List.{List, _++_}
 use Rattle.refusals.specs.Refusals.{numberOf}
 use Rattle.refusals.specs.declared.refusal.Refusal.{Refusal}
 use Rattle.tool06.specs.declared.figures.Figures.{Figures}
@@ -41,13 +38,3 @@ minuteLine minute (Refused r) = refusedLine minute r
 -- R73: "A refused site prints only `site refused R`"
 unfoldable pub siteLine : Refusal → List ℕ
 siteLine r = text "site refused " ++ decimal (numberOf r) ++ text "\n"
-
--- R77: the minutes under one rule, in words: "ten counts, one per rule"; words have at most 80 bytes, and with longer ones there is no line
-unfoldable pub ruleLine : ℕ → ℕ → List ℕ → List ℕ
-ruleLine rule minutes words =
-    cond (leb (length words) 80)
-    (text "rule " ++ decimal rule
-    ++ text " minutes " ++ decimal minutes
-    ++ text " " ++ words
-    ++ text "\n")
-    []

@@ -1,10 +1,10 @@
-// The lines of a minute, of a refused site and of a rule, each put into a buffer from a place on.
+// The lines of a minute and of a refused site, each put into a buffer from a place on.
 ghost use mathlib.Core.Path.{_≡_};
 ghost use Prim.Native.Nat.{_+_, _≤_};
 ghost use lib.ListN.{length};
 ghost use Rattle.room.specs.Places.{placed, placeAfter};
 ghost use Rattle.text.specs.Places.{PutFrom};
-ghost use Rattle.lines.specs.Lines.{methane, acceptedLine, refusedLine, minuteLine, siteLine, ruleLine};
+ghost use Rattle.lines.specs.Lines.{methane, acceptedLine, refusedLine, minuteLine, siteLine};
 use refusals::Refusal;
 use room::room;
 use text::put_decimal;
@@ -14,9 +14,6 @@ use tool06::Judged;
 
 // No line is longer.
 pub const LONGEST: usize = 163;
-
-// A rule's words are no longer, so that its line is not either.
-const WORDS: usize = 80;
 
 // Methane in mg, of a minute or of sums.
 pub fn put_methane(out: &mut [u8], at: usize, fed: u64, emitted: u64, destroyed: u64) -> usize
@@ -76,26 +73,6 @@ pub fn put_site(out: &mut [u8], at: usize, refusal: Refusal) -> usize
     if LONGEST <= room(out, at) {
         let at = put_text(out, at, b"site refused ");
         let at = put_decimal(out, at, refusal.number() as u64);
-        put_text(out, at, b"\n")
-    } else {
-        at
-    }
-}
-
-// The minutes under one rule, which the words describe; there is no line with longer words than WORDS.
-pub fn put_rule(out: &mut [u8], at: usize, rule: u8, minutes: u32, words: &[u8]) -> usize
-    ensures { λ r. ⌜ (r ≡ placeAfter (now (out .entry)) at (ruleLine rule minutes (now (words .entry)))) × (now (out .exit) ≡ placed (now (out .entry)) at (ruleLine rule minutes (now (words .entry)))) ⌝ }
-{
-    if WORDS < words.len() {
-        return at;
-    }
-    if LONGEST <= room(out, at) {
-        let at = put_text(out, at, b"rule ");
-        let at = put_decimal(out, at, rule as u64);
-        let at = put_text(out, at, b" minutes ");
-        let at = put_decimal(out, at, minutes as u64);
-        let at = put_text(out, at, b" ");
-        let at = put_text(out, at, words);
         put_text(out, at, b"\n")
     } else {
         at

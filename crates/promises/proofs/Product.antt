@@ -23,6 +23,7 @@ use Rattle.worked.proofs.Holds.{table-holds}
 use Rattle.text.proofs.ReadsBack.{reads-back}
 use Rattle.lines.proofs.NoneCut.{none-cut}
 use Rattle.sheet.proofs.Uncut.{sheet-uncut}
+use Rattle.summary.proofs.Uncut.{rule-uncut}
 use Rattle.report.proofs.Pieces.{in-pieces}
 use Rattle.promises.specs.Outcomes.{OneOutcomeOfCalls}
 use Rattle.promises.specs.Product.{Product}
@@ -62,7 +63,7 @@ product = record {
   rounded-once = rounded-once;
   examples = table-holds;
   chart-points = lossless;
-  printed = (none-cut, sheet-uncut, reads-back, in-pieces);
+  printed = (none-cut, sheet-uncut, rule-uncut, reads-back, in-pieces);
   program = reports-are-given;
   demand-three = (demand-three, demand-three-by-seven, no-slack);
   equation-15 = equation-15;

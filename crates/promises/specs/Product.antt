@@ -13,6 +13,7 @@ use Rattle.worked.specs.Table.{TableHolds}
 use Rattle.text.specs.Promises.{DecimalsReadBack}
 use Rattle.lines.specs.Promises.{NoneCut}
 use Rattle.sheet.specs.Promises.{SheetUncut}
+use Rattle.summary.specs.Promises.{RuleUncut}
 use Rattle.report.specs.Promises.{InPieces}
 use Rattle.promises.specs.Calls.{NumbersOfCalls, RefusedChangesNothing}
 use Rattle.promises.specs.Outcomes.{OneOutcomeOfCalls}
@@ -41,7 +42,7 @@ pub record Product : Type 1 where
   -- R49: a chart point's sums without loss
   pub chart-points : Lossless
   -- R74 to R76: no printed line is cut, its numbers read back, and records may come in pieces
-  pub printed : NoneCut × SheetUncut × DecimalsReadBack × InPieces
+  pub printed : NoneCut × SheetUncut × RuleUncut × DecimalsReadBack × InPieces
   -- R59, R68: the account that the program ends with is one that the calls give, so that all here holds of it
   pub program : ReportsAreGiven
   -- R86: demand 3. The sums beside the tool's equations, with any positive molecular mass for each minute, and with that of each minute's own gas; nothing widens its bounds

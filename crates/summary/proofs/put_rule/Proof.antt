@@ -3,10 +3,10 @@ use borrow.Author.Needs.{needs}
 use borrow.Author.Tests.{le-leb, lt-leb}
 use lib.ListN.{length}
 use Rattle.text.proofs.Putting.{onward}
-use Rattle.lines.specs.Lines.{ruleLine}
+use Rattle.summary.specs.Summary.{ruleLine}
 use Rattle.room.proofs.Placing.{there, nowhere, no-line}
-use Rattle.lines.proofs.put_rule.Statement.{statement}
-use Rattle.lines.proofs.put_rule.Tie as tie
+use Rattle.summary.proofs.put_rule.Statement.{statement}
+use Rattle.summary.proofs.put_rule.Tie as tie
 
 returns : tie.Need-returns
 unfolding ruleLine

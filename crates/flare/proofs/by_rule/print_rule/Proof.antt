@@ -4,13 +4,13 @@ use mathlib.Core.List.{List}
 use native.Mathlib.Omega.{arith}
 use borrow.Author.Needs.{needs}
 use lib.ListN.{length}
-use Rattle.lines.specs.Lines.{ruleLine}
+use Rattle.summary.specs.Summary.{ruleLine}
 use Rattle.text.specs.Places.{PutFrom}
 use Rattle.room.specs.Places.{placed, placeAfter}
-use Rattle.lines.proofs.NoneCut.{none-cut}
+use Rattle.summary.proofs.Uncut.{rule-uncut}
 use Rattle.room.proofs.Placing.{whole}
-use Rattle.flare.proofs.summary.print_rule.Statement.{statement}
-use Rattle.flare.proofs.summary.print_rule.Tie as tie
+use Rattle.flare.proofs.by_rule.print_rule.Statement.{statement}
+use Rattle.flare.proofs.by_rule.print_rule.Tie as tie
 
 -- a rule's line, and the place after it
 ruled :
@@ -18,7 +18,7 @@ ruled :
     → at + 163 ≤ length b
     → (next ≡ placeAfter b at (ruleLine rule minutes words)) × (b' ≡ placed b at (ruleLine rule minutes words))
     → PutFrom b at (ruleLine rule minutes words) b' next × (next ≤ at + 163)
-ruled rule minutes words h put-is = let w = whole h put-is in (w, omega (arith, w .place, none-cut .rule rule minutes words))
+ruled rule minutes words h put-is = let w = whole h put-is in (w, omega (arith, w .place, rule-uncut rule minutes words))
 
 part-write-all-end : tie.Need-part-write-all-end
 part-write-all-end c =

@@ -3,12 +3,12 @@ ghost use Prim.Native.Nat.{_<_};
 ghost use Rattle.tool06.specs.Rules.{ruleCount};
 use tool06::Figures;
 
-// A line's text is that of `lines`. Answers whether it could be printed.
+// A line's text is that of the crate `summary`. Answers whether it could be printed.
 fn print_rule(counts: [u32; Figures::RULES], rule: u8, words: &[u8]) -> bool
     requires { ⌜ rule < ruleCount ⌝ }
 {
     let mut line = [0u8; 163];
-    let used = lines::put_rule(&mut line, 0, rule, counts[rule as usize], words);
+    let used = summary::put_rule(&mut line, 0, rule, counts[rule as usize], words);
     io::write_all(libc::STDOUT_FILENO, &line[0..used])
 }
 
