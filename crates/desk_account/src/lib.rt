@@ -1,6 +1,4 @@
-// The calls of the desk on its account.
+// The calls of the desk that open its account and add to it.
 pub mod adding;
-pub mod checking;
 pub mod opening;
 pub mod turn;
-pub mod year;

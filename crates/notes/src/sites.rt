@@ -70,8 +70,15 @@ fn begins_text(first: u8) -> bool {
     }
 }
 
-// Which line of no_site tells of so many bytes.
-fn place_in_no_site(bytes: usize, text: bool) -> u8 {
+// What the input is that has no site, a line each.
+const NO_SITE: [u8; 132] = *b"is empty
+looks like text, which examples/records.c makes into records
+ends within the site record
+does not begin with a site record
+";
+
+// The line for so many bytes.
+fn line_of(bytes: usize, text: bool) -> u8 {
     if bytes == 0 {
         1
     } else if text {
@@ -86,23 +93,29 @@ fn place_in_no_site(bytes: usize, text: bool) -> u8 {
 fn no_site(bytes: &[u8]) {
     let text = begins_text(numbers::byte_at(bytes, 0));
     say::text(b"flare: the site is refused, 1 LENGTH: the input ");
-    say::line(
-        b"is empty\nlooks like text, which examples/records.c makes into records\nends within the site record\ndoes not begin with a site record\n",
-        place_in_no_site(bytes.len(), text),
-    );
+    say::line(&NO_SITE, line_of(bytes.len(), text));
     say::text(
         b"; a record file begins with a site record of 30 bytes, the first three 00 1c 01 (README.md, The records)\n",
     );
 }
 
+// What is wrong with a site, a line for each number.
+const WRONG_FIELD: [u8; 517] = *b"1 LENGTH
+2 VERSION: the third byte is not 1; export the records in version 1
+3 METHOD: 0 is the default method and 1 is measured each minute
+4 YEAR: 2000 to 2099
+5 GWP: 1 to 100
+6 SIZE: height up to 100000 mm, diameter 1 to 100000 mm
+7 SPEC: temperatures of -50.0 to 1500.0 degrees and flows of up to 100000 litres, the lowest not above the highest
+8 OPEN: a flare at most twice as high as wide is open, and an open one cannot be measured
+9 SCHEDULE: days between maintenance up to 3660, and when measured at least 1
+";
+
 // By its number. LENGTH is told by no_site, and those from LIST on are not of a site.
 fn wrong_field(refusal: u8) {
     say::text(b"flare: the site is refused, ");
     if refusal < 10 {
-        say::line(
-            b"1\n2 VERSION: the third byte is not 1; export the records in version 1\n3 METHOD: 0 is the default method and 1 is measured each minute\n4 YEAR: 2000 to 2099\n5 GWP: 1 to 100\n6 SIZE: height up to 100000 mm, diameter 1 to 100000 mm\n7 SPEC: temperatures of -50.0 to 1500.0 degrees and flows of up to 100000 litres, the lowest not above the highest\n8 OPEN: a flare at most twice as high as wide is open, and an open one cannot be measured\n9 SCHEDULE: days between maintenance up to 3660, and when measured at least 1\n",
-            refusal,
-        );
+        say::line(&WRONG_FIELD, refusal);
     } else {
         say::number(b"", refusal as u64);
     }

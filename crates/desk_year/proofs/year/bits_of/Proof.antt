@@ -5,8 +5,8 @@ use native.Mathlib.Omega.{arith}
 use borrow.Author.Needs.{needs}
 use lib.Dec.{T}
 use lib.Ieee.{Float, nan, inf, fin, eq, isNan}
-use Rattle.desk_account.proofs.year.bits_of.Statement.{statement}
-use Rattle.desk_account.proofs.year.bits_of.Tie as tie
+use Rattle.desk_year.proofs.year.bits_of.Statement.{statement}
+use Rattle.desk_year.proofs.year.bits_of.Tie as tie
 
 a-number : (x : Float) → eq x x ≡ true → T (not (isNan x))
 unfolding eq isNan
