@@ -7,7 +7,6 @@ ghost use Rattle.tool06.specs.scaffold.Nanograms.{Takes, figuresNg};
 ghost use Rattle.tool06.specs.Rules.{theRule};
 ghost use Rattle.tool06.specs.Short.{S-negative, F-RG-ng};
 ghost use Rattle.tool06.specs.Tool.{Masses, Positive};
-use crate::nanograms;
 use minute::Gas;
 use minute::Minute;
 use refusals::Refusal;

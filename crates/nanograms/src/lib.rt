@@ -9,7 +9,7 @@ use minute::Minute;
 use tool06::Figures;
 use tool06::Loss;
 
-pub(crate) fn ceil_div(x: u64, a: u64) -> u64
+pub fn ceil_div(x: u64, a: u64) -> u64
     requires { ⌜ (0 < a) × (x + a ≤ 2 ^ 64) ⌝ }
     ensures { λ r. ⌜ r ≡ ceilDiv x a ⌝ }
 {
@@ -22,7 +22,7 @@ fn smaller(x: u64, y: u64) -> u64
     if x <= y { x } else { y }
 }
 
-pub(crate) fn fed_ng(minute: Minute) -> u64
+pub fn fed_ng(minute: Minute) -> u64
     requires { ⌜ F-RG-ng minute ≤ 71600000000000 ⌝ }
     ensures { λ r. ⌜ r ≡ F-RG-ng minute ⌝ }
 {
@@ -71,7 +71,7 @@ fn measured_ng(fed: u64, tenths: u64, x: u64, air: u64) -> u64
     smaller(tenths * (fed / Loss::ALL_TENTHS) + up, fed)
 }
 
-pub(crate) fn emitted_ng(loss: Loss, minute: Minute, fed: u64) -> u64
+pub fn emitted_ng(loss: Loss, minute: Minute, fed: u64) -> u64
     requires { ⌜ (fed ≡ F-RG-ng minute) × (fed ≤ 71600000000000) × Takes loss minute ⌝ }
     ensures { λ r. ⌜ r ≡ emittedNg loss minute ⌝ }
 {

@@ -3,9 +3,9 @@ use mathlib.Core.Path.{subst}
 use native.Mathlib.Omega.{arith}
 use Rattle.tool06.specs.declared.loss.Loss.{Loss}
 use Rattle.tool06.specs.scaffold.Nanograms.{emittedNg, Takes}
-use Rattle.judge.proofs.Sizes.{LKf-within}
-use Rattle.judge.proofs.nanograms.emitted_ng.Statement.{statement}
-use Rattle.judge.proofs.nanograms.emitted_ng.Tie as tie
+use Rattle.nanograms.proofs.Sizes.{LKf-within}
+use Rattle.nanograms.proofs.emitted_ng.Statement.{statement}
+use Rattle.nanograms.proofs.emitted_ng.Tie as tie
 
 share-ng-requires : tie.Need-share-ng-requires
 share-ng-requires c κs =

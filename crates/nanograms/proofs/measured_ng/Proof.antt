@@ -5,9 +5,9 @@ use native.Mathlib.Omega.{arith}
 use Rattle.exact.specs.Rounding.{ceilDiv}
 use Rattle.exact.proofs.Rounding.{ceil-le-self, factor-capped}
 use Rattle.tool06.specs.scaffold.Nanograms.{P, Q}
-use Rattle.judge.proofs.Sizes.{digit, digit-over, tens-within, rest-within}
-use Rattle.judge.proofs.nanograms.measured_ng.Statement.{statement}
-use Rattle.judge.proofs.nanograms.measured_ng.Tie as tie
+use Rattle.nanograms.proofs.Sizes.{digit, digit-over, tens-within, rest-within}
+use Rattle.nanograms.proofs.measured_ng.Statement.{statement}
+use Rattle.nanograms.proofs.measured_ng.Tie as tie
 
 mul-digit : tie.Need-mul-digit
 mul-digit c = let a = c .args in record { fits = omega (arith, digit (a .tenths) (a .fed) (omega arith)) }
