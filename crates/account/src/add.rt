@@ -73,7 +73,7 @@ impl Account {
         match verdict {
             Verdict::Refuse(r) => Judged::Refused(r),
             Verdict::Fine => {
-                let minute = minute::fields_in(bytes);
+                let minute = reading::minute_in(bytes);
                 let in_time = self.in_time(minute.number);
                 let sums = self.sums;
                 judge::judge(self.site, minute, minute.number != sums.minutes, in_time)

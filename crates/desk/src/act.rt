@@ -10,7 +10,7 @@ use desk_account::opening;
 use desk_account::turn::Desk;
 use desk_account::turn::Turn;
 use desk_records::buffers;
-use desk_records::reading;
+use desk_records::fields;
 use desk_records::runs;
 use desk_year::checking;
 use desk_year::year;
@@ -38,9 +38,9 @@ use forms::take::u32_of;
 fn of_records(call: usize, values: [usize; 15], bytes: &[u8], out: &mut [u8], at: usize) -> usize {
     let record = part(bytes, 0, values[0]);
     match call {
-        SITE => reading::site(record, out, at),
-        MINUTE => reading::minute(record, out, at),
-        CLASS => reading::class(record, out, at),
+        SITE => fields::site(record, out, at),
+        MINUTE => fields::minute(record, out, at),
+        CLASS => fields::class(record, out, at),
         WRITE_SITE => buffers::write_site(values, out, at),
         WRITE_MINUTE => buffers::write_minute(values, out, at),
         PART => runs::part(u32_of(values[0]), part(bytes, 0, values[1]), out, at),

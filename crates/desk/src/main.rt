@@ -32,7 +32,7 @@ fn answer_buffer() -> [u8; 400_000]
 fn nobody() -> Desk
     ensures { λ r. ⌜ Ready r ⌝ }
 {
-    let opened = Account::open(site::fields_in(&[]), &[]);
+    let opened = Account::open(reading::site_in(&[]), &[]);
     let account = opened.account;
     Desk {
         open: false,

@@ -113,7 +113,7 @@ fn with_list(desk: Desk, record: &[u8], days: &[i16], out: &mut [u8], at: usize)
     requires { ⌜ Ready desk ⌝ }
     ensures { λ r. ⌜ Ready (r .desk) ⌝ }
 {
-    match Site::read(record) {
+    match reading::read_site(record) {
         SiteRead::Fields(site) => with_site(desk, site, days, out, at),
         SiteRead::Refused(refusal) => Turn {
             desk,

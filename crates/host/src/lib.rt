@@ -45,14 +45,14 @@ pub extern "C" fn flare_minute(site: &[u8], minute: &[u8], days: u16, answer: &m
     if answer.len() != Figures::ANSWER_BYTES {
         return Refusal::Buffer.number();
     }
-    match Site::read(site) {
+    match reading::read_site(site) {
         SiteRead::Refused(r) => r.number(),
         SiteRead::Fields(fields) => match records::head(minute, Minute::BYTES, Minute::VERSION) {
             Verdict::Refuse(r) => r.number(),
             Verdict::Fine => {
                 let judged = judge::judge_single(
                     fields,
-                    minute::fields_in(minute),
+                    reading::minute_in(minute),
                     in_time(fields, days),
                 );
                 match judged {

@@ -4,18 +4,10 @@ use mathlib.Core.Path.{sym, _∙_}
 use Rattle.exact.specs.One.{OneResult}
 use Rattle.minute.proofs.Minute.alone.Reads as alone
 use Rattle.minute.proofs.Minute.has.Reads as has
-use Rattle.minute.proofs.Minute.read.Reads as read
 use Rattle.minute.proofs.Minute.verdict.Reads as verdict
-use Rattle.minute.proofs.read.fields_in.Reads as fields-in
-
-pub read-one : (κs : _) (a : _) → OneResult (read.Learnt κs a)
-read-one κs a x y e f p q = p ∙ sym q
 
 pub verdict-one : (κs : _) (a : _) → OneResult (verdict.Learnt κs a)
 verdict-one κs a x y e f p q = p ∙ sym q
-
-pub fields-in-one : (κs : _) (a : _) → OneResult (fields-in.Learnt κs a)
-fields-in-one κs a x y e f p q = p ∙ sym q
 
 pub has-one : (κs : _) (a : _) → OneResult (has.Learnt κs a)
 has-one κs a x y e f p q = p ∙ sym q

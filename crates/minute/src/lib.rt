@@ -1,9 +1,7 @@
 // The minute record.
 mod gas;
-mod read;
 
 pub use gas::Gas;
-pub use read::fields_in;
 ghost use mathlib.Core.Path.{_≡_};
 ghost use Rattle.refusals.specs.Tables.{firstOf};
 ghost use Rattle.minute.specs.Rules.{isOn, temperatureWrong, exhaustWrong, minuteLines, aloneLines};

@@ -129,7 +129,7 @@ pub fn refused_site(refusal: Refusal, bytes: &[u8]) {
         _ => {
             let number = refusal.number();
             if 2 < number {
-                understood(site::fields_in(bytes));
+                understood(reading::site_in(bytes));
             }
             wrong_field(number);
         }

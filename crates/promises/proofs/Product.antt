@@ -1,8 +1,7 @@
 -- Every promise is kept.
 use Rattle.site.proofs.RoundTrip.{site-reads-back, site-writes-back}
-use Rattle.site.proofs.Unique as site
 use Rattle.minute.proofs.RoundTrip.{minute-reads-back, minute-writes-back}
-use Rattle.minute.proofs.Unique as minute
+use Rattle.reading.proofs.Unique.{read-site-one, read-minute-one}
 use Rattle.writing.proofs.Unique.{write-site-one, write-minute-one}
 use Rattle.tool06.proofs.Kept.{fed-form, short-form, sign-of-F, K-is-positive, equation-seven}
 use Rattle.tool06.proofs.Sums.{rounded-once, no-slack, masses-cancel}
@@ -32,8 +31,8 @@ use Rattle.promises.proofs.Program.{reports-are-given}
 
 one-outcome-of-calls : OneOutcomeOfCalls
 one-outcome-of-calls = record {
-  reading-a-site = site.read-one;
-  reading-a-minute = minute.read-one;
+  reading-a-site = read-site-one;
+  reading-a-minute = read-minute-one;
   writing-a-site = write-site-one;
   writing-a-minute = write-minute-one;
   classing = class-of-one;

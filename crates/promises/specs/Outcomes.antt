@@ -4,9 +4,9 @@ use mathlib.Core.Path.{_≡_}
 use denote.Ref.{now, ptr}
 use denote.Slice.{slice-vals}
 use Rattle.exact.specs.One.{OneResult, OneOutcome}
-use Rattle.site.proofs.Site.read.Reads as read-site
+use Rattle.reading.proofs.read_site.Reads as read-site
 use Rattle.writing.proofs.write_site.Reads as write-site
-use Rattle.minute.proofs.Minute.read.Reads as read-minute
+use Rattle.reading.proofs.read_minute.Reads as read-minute
 use Rattle.writing.proofs.write_minute.Reads as write-minute
 use Rattle.rules.proofs.class_of.Reads as class-of
 use Rattle.account.proofs.Account.open.Reads as open-account

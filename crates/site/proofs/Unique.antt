@@ -4,12 +4,7 @@ use mathlib.Core.Path.{sym, _∙_}
 use Rattle.exact.specs.One.{OneResult}
 use Rattle.site.proofs.Site.is_open.Reads as is-open
 use Rattle.site.proofs.Site.minutes.Reads as minutes
-use Rattle.site.proofs.Site.read.Reads as read
 use Rattle.site.proofs.Site.verdict.Reads as verdict
-use Rattle.site.proofs.read.fields_in.Reads as fields-in
-
-pub read-one : (κs : _) (a : _) → OneResult (read.Learnt κs a)
-read-one κs a x y e f p q = p ∙ sym q
 
 pub verdict-one : (κs : _) (a : _) → OneResult (verdict.Learnt κs a)
 verdict-one κs a x y e f p q = p ∙ sym q
@@ -19,6 +14,3 @@ minutes-one κs a x y e f p q = p ∙ sym q
 
 pub is-open-one : (κs : _) (a : _) → OneResult (is-open.Learnt κs a)
 is-open-one κs a x y e f p q = p ∙ sym q
-
-pub fields-in-one : (κs : _) (a : _) → OneResult (fields-in.Learnt κs a)
-fields-in-one κs a x y e f p q = p ∙ sym q

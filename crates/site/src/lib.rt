@@ -1,7 +1,4 @@
 // The site record.
-mod read;
-
-pub use read::fields_in;
 ghost use mathlib.Core.Path.{_≡_};
 ghost use Rattle.refusals.specs.Tables.{firstOf};
 ghost use Rattle.site.specs.Rules.{temperaturesWrong, flowsWrong, isOpen, yearMinutes, siteLines};

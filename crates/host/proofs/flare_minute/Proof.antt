@@ -16,7 +16,7 @@ use Rattle.host.proofs.flare_minute.Tie as tie
 read-as : (f : tie.After-fields)
     → let a = f .before .before .before .before .before .before .before .args in
     readSite (now (a .site)) ≡ Fields (f .fields .given .0 .0)
-read-as f = sym (f .before .before .read .ensures) ∙ f .fields .given .1
+read-as f = sym (f .before .before .read-site .ensures) ∙ f .fields .given .1
 
 -- what the table's beginning comes to with the minute's head
 decided : (h : tie.After-head) {v : Verdict} → h .head .result ≡ v
@@ -44,7 +44,7 @@ came j m pos =
     rw (
       j .judge-single .ensures m pos,
       j .before .in-time .ensures,
-      j .before .before .fields-in .ensures,
+      j .before .before .minute-in .ensures,
       same-fields (now (a .site)) (read-as f),
     )
     (judged-as _ _ _ _ (fine e) m)
@@ -68,7 +68,7 @@ returns-2 c =
     let l = r .before .before in
     let a = l .before .before .before .before .before .args in
     rw (c .number2 .ensures)
-    (outcome _ _ _ _ (Refused _) (λ m pos. refused-as _ _ _ _ (by-site (now (a .site)) (now (a .minute)) (now (a .answer)) (l .before .if1 .left) (sym (l .read .ensures) ∙ r .r .given .1)) m))
+    (outcome _ _ _ _ (Refused _) (λ m pos. refused-as _ _ _ _ (by-site (now (a .site)) (now (a .minute)) (now (a .answer)) (l .before .if1 .left) (sym (l .read-site .ensures) ∙ r .r .given .1)) m))
 
 returns-3 : tie.Need-returns-3
 returns-3 c =

@@ -49,7 +49,7 @@ returns-2 c m pos =
     let n = minuteOf (a .bytes .now) in
     let figures = figuresOf m (entry (a .self) (a .bytes .now)) in
     c .judge .ensures m pos
-    ∙ rw (i .in-time .ensures, i .before .fields-in .ensures)
+    ∙ rw (i .in-time .ensures, i .before .minute-in .ensures)
     (by-fields Accepted Refused (λ f. judgedLines (notNext (a .self) n) (a .self .site) n) figures (recordLines (a .self) (a .bytes .now)) figures _
     (sym (decided v) ∙ i .before .before .enum-told .given .1) refl refl)
 

@@ -1,32 +1,30 @@
 // Reading a site record from any bytes.
 ghost use mathlib.Core.Path.{_≡_};
 ghost use Rattle.site.specs.Record.{siteOf, readSite};
-use crate::Flows;
-use crate::Site;
-use crate::SiteRead;
-use crate::Temperatures;
 use refusals::Verdict;
+use site::Flows;
+use site::Site;
+use site::SiteRead;
+use site::Temperatures;
 
-impl Site {
-    // The fields, or the first of the refusals 1 to 9.
-    pub fn read(bytes: &[u8]) -> SiteRead
-        ensures { λ r. ⌜ r ≡ readSite (now (bytes .entry)) ⌝ }
-    {
-        match records::head(bytes, Site::BYTES, Site::VERSION) {
-            Verdict::Refuse(r) => SiteRead::Refused(r),
-            Verdict::Fine => {
-                let site = fields_in(bytes);
-                match site.verdict() {
-                    Verdict::Fine => SiteRead::Fields(site),
-                    Verdict::Refuse(r) => SiteRead::Refused(r),
-                }
+// The fields, or the first of the refusals 1 to 9.
+pub fn read_site(bytes: &[u8]) -> SiteRead
+    ensures { λ r. ⌜ r ≡ readSite (now (bytes .entry)) ⌝ }
+{
+    match records::head(bytes, Site::BYTES, Site::VERSION) {
+        Verdict::Refuse(r) => SiteRead::Refused(r),
+        Verdict::Fine => {
+            let site = site_in(bytes);
+            match site.verdict() {
+                Verdict::Fine => SiteRead::Fields(site),
+                Verdict::Refuse(r) => SiteRead::Refused(r),
             }
         }
     }
 }
 
 // The fields of a record's bytes, not yet examined.
-pub fn fields_in(b: &[u8]) -> Site
+pub fn site_in(b: &[u8]) -> Site
     ensures { λ r. ⌜ r ≡ siteOf (now (b .entry)) ⌝ }
 {
     let temperature = Temperatures {

@@ -31,7 +31,7 @@ fn put_site(out: &mut [u8], at: usize, site: Site) -> usize {
 }
 
 pub fn site(record: &[u8], out: &mut [u8], at: usize) -> usize {
-    match Site::read(record) {
+    match reading::read_site(record) {
         SiteRead::Fields(site) => put_site(out, at, site),
         SiteRead::Refused(refusal) => put::refused(out, at, refusal),
     }
@@ -65,7 +65,7 @@ fn put_minute(out: &mut [u8], at: usize, minute: Minute) -> usize {
 }
 
 pub fn minute(record: &[u8], out: &mut [u8], at: usize) -> usize {
-    match Minute::read(record) {
+    match reading::read_minute(record) {
         MinuteRead::Fields(minute) => put_minute(out, at, minute),
         MinuteRead::Refused(refusal) => put::refused(out, at, refusal),
     }
@@ -80,7 +80,7 @@ fn put_class(out: &mut [u8], at: usize, class: Class) -> usize {
 }
 
 pub fn class(record: &[u8], out: &mut [u8], at: usize) -> usize {
-    match Site::read(record) {
+    match reading::read_site(record) {
         SiteRead::Fields(site) => put_class(out, at, rules::class_of(site)),
         SiteRead::Refused(refusal) => put::refused(out, at, refusal),
     }

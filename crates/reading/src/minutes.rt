@@ -1,25 +1,23 @@
 // Reading a minute record alone, without a site, from any bytes.
 ghost use mathlib.Core.Path.{_≡_};
 ghost use Rattle.minute.specs.Record.{minuteOf, readMinute};
-use crate::Gas;
-use crate::Minute;
-use crate::MinuteRead;
-use crate::Readings;
+use minute::Gas;
+use minute::Minute;
+use minute::MinuteRead;
+use minute::Readings;
 use refusals::Verdict;
 
-impl Minute {
-    // The fields, or the first of the refusals 1, 2 and 12 to 18, with 13 for a minute that no year has.
-    pub fn read(bytes: &[u8]) -> MinuteRead
-        ensures { λ r. ⌜ r ≡ readMinute (now (bytes .entry)) ⌝ }
-    {
-        match records::head(bytes, Minute::BYTES, Minute::VERSION) {
-            Verdict::Refuse(r) => MinuteRead::Refused(r),
-            Verdict::Fine => {
-                let minute = fields_in(bytes);
-                match minute.alone() {
-                    Verdict::Fine => MinuteRead::Fields(minute),
-                    Verdict::Refuse(r) => MinuteRead::Refused(r),
-                }
+// The fields, or the first of the refusals 1, 2 and 12 to 18, with 13 for a minute that no year has.
+pub fn read_minute(bytes: &[u8]) -> MinuteRead
+    ensures { λ r. ⌜ r ≡ readMinute (now (bytes .entry)) ⌝ }
+{
+    match records::head(bytes, Minute::BYTES, Minute::VERSION) {
+        Verdict::Refuse(r) => MinuteRead::Refused(r),
+        Verdict::Fine => {
+            let minute = minute_in(bytes);
+            match minute.alone() {
+                Verdict::Fine => MinuteRead::Fields(minute),
+                Verdict::Refuse(r) => MinuteRead::Refused(r),
             }
         }
     }
@@ -41,7 +39,7 @@ fn gas_in(b: &[u8]) -> Gas
 }
 
 // The fields of a record's bytes, not yet examined.
-pub fn fields_in(b: &[u8]) -> Minute
+pub fn minute_in(b: &[u8]) -> Minute
     ensures { λ r. ⌜ r ≡ minuteOf (now (b .entry)) ⌝ }
 {
     let exhaust = Readings {

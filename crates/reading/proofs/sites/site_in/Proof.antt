@@ -1,8 +1,8 @@
 use mir.ValLaws.{toZ-ofZ}
 use mir.Syntax.{w16}
 use borrow.Author.Needs.{needs, sfits-of}
-use Rattle.site.proofs.read.fields_in.Statement.{statement}
-use Rattle.site.proofs.read.fields_in.Tie as tie
+use Rattle.reading.proofs.sites.site_in.Statement.{statement}
+use Rattle.reading.proofs.sites.site_in.Tie as tie
 
 returns : tie.Need-returns
 returns c =
@@ -26,8 +26,8 @@ returns c =
       t .before .u16-at .ensures,
     )
 
-pub fields-in-spec : {M : Type 1} → statement M
-fields-in-spec =
+pub site-in-spec : {M : Type 1} → statement M
+site-in-spec =
     tie.close
     (tie.spec
     (search needs)

@@ -1,6 +1,6 @@
 use borrow.Author.Needs.{needs}
-use Rattle.minute.proofs.read.gas_in.Statement.{statement}
-use Rattle.minute.proofs.read.gas_in.Tie as tie
+use Rattle.reading.proofs.minutes.gas_in.Statement.{statement}
+use Rattle.reading.proofs.minutes.gas_in.Tie as tie
 
 returns : tie.Need-returns
 returns c =
