@@ -1,6 +1,6 @@
 pub mod Accepted
 pub mod Laws
+pub mod Lossless
 pub mod Opens
-pub mod Turn
 pub mod Unique
 pub mod Within

@@ -4,6 +4,9 @@ use mathlib.Core.Path.{sym, _∙_}
 use Rattle.exact.specs.One.{OneResult}
 use Rattle.tool06.proofs.Ones.{ones, ones-positive}
 use Rattle.account.proofs.Account.add.Reads as add
+use Rattle.account.proofs.Account.chart.Reads as chart
+use Rattle.account.proofs.Account.close.Reads as close
+use Rattle.account.proofs.Account.co2e.Reads as co2e
 use Rattle.account.proofs.Account.open.Reads as opening
 use Rattle.account.proofs.Account.site.Reads as site
 use Rattle.account.proofs.Account.sums.Reads as sums
@@ -15,6 +18,15 @@ open-one κs a x y e f p q = p ∙ sym q
 
 pub add-one : (κs : _) (a : _) → OneResult (add.Learnt κs a)
 add-one κs a x y e f p q = p ones ones-positive ∙ sym (q ones ones-positive)
+
+pub co2e-one : (κs : _) (a : _) → OneResult (co2e.Learnt κs a)
+co2e-one κs a x y e f p q = p ∙ sym q
+
+pub close-one : (κs : _) (a : _) → OneResult (close.Learnt κs a)
+close-one κs a x y e f p q = p ∙ sym q
+
+pub chart-one : (κs : _) (a : _) → OneResult (chart.Learnt κs a)
+chart-one κs a x y e f p q = p ∙ sym q
 
 -- the readers
 pub site-one : (κs : _) (a : _) → OneResult (site.Learnt κs a)

@@ -1,6 +1,6 @@
 pub mod Adding
+pub mod Closing
 pub mod Kept
 pub mod Opening
 pub mod Promises
-pub mod Turn
 pub mod scaffold

@@ -1,9 +1,12 @@
--- R45, R54, R58: what is promised of the calls of an account, whatever account it is.
+-- R45, R49, R54, R58: what is promised of the calls of an account, whatever account it is.
 use Prim.Native.Nat.{ℕ}
 use mathlib.Core.Path.{_≡_}
 use mathlib.Core.Logic.{_↔_}
+use mathlib.Core.Bool.{false}
 use mathlib.Core.List.{List}
-use lib.IntN.{ℤ}
+use lib.IntN.{ℤ, pos}
+use lib.Ieee.{binary64, ofInt}
+use lib.Ieee.Exact.{HasValue}
 use Rattle.refusals.specs.declared.refusal.Refusal.{Refusal}
 use Rattle.refusals.specs.declared.verdict.Verdict.the-variants.{Fine}
 use Rattle.site.specs.declared.Site.{Site}
@@ -12,6 +15,7 @@ use Rattle.tool06.specs.Tool.{Masses}
 use Rattle.tool06.specs.declared.figures.Figures.{Figures}
 use Rattle.tool06.specs.declared.figures.Judged.the-variants.{Accepted, Refused}
 use Rattle.account.specs.Adding.{inTimeAt, answer, addTo}
+use Rattle.account.specs.Closing.{co2e}
 use Rattle.account.specs.Kept.{Kept}
 use Rattle.account.specs.Opening.{opened}
 use Rattle.account.specs.declared.Account.{Account}
@@ -33,3 +37,11 @@ NothingElse =
     → answer m a bytes ≡ Accepted f
     → answer m b bytes ≡ Accepted g
     → f ≡ g
+
+-- R49: as an f64 it is finite, not negative, and mg / 1 in size
+abbrev pub ConvertedExactly : ℕ → Type 0
+ConvertedExactly mg = HasValue (ofInt binary64 (pos mg)) false mg 1
+
+-- R49: "the mg sum converted without loss"
+abbrev pub Lossless : Type 0
+Lossless = (a : Account) → Kept a → ConvertedExactly (a .sums .fed) × ConvertedExactly (co2e a)

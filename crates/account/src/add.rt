@@ -43,7 +43,7 @@ fn worth(figures: Figures) -> Sums
 
 impl Account {
     // Whether the year's last minute is in.
-    fn is_full(self) -> bool
+    pub(crate) fn is_full(self) -> bool
         ensures { λ r. ⌜ r ≡ isFull self ⌝ }
     {
         let site = self.site;

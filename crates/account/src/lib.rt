@@ -1,9 +1,12 @@
 // The account of one flare over one calendar year.
 mod add;
+mod close;
 mod open;
 mod read;
 
 pub use add::Added;
+pub use close::Closed;
+pub use close::Point;
 use maintenance::Maintenance;
 pub use open::Opened;
 use site::Site;

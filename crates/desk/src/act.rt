@@ -3,7 +3,9 @@ ghost use Prim.Native.Nat.{_≤_};
 ghost use lib.ListN.{length};
 ghost use Rattle.account.specs.Kept.{Kept};
 ghost use Rattle.desk_account.specs.Desk.{Ready};
+use crate::checking;
 use account::Account;
+use answers::put;
 use desk_account::adding;
 use desk_account::adding::Grown;
 use desk_account::opening;
@@ -12,8 +14,6 @@ use desk_account::turn::Turn;
 use desk_records::buffers;
 use desk_records::fields;
 use desk_records::runs;
-use desk_year::checking;
-use desk_year::year;
 use forms::call::ADD;
 use forms::call::CHART;
 use forms::call::CHECK;
@@ -29,7 +29,6 @@ use forms::call::SITE;
 use forms::call::TOTAL;
 use forms::call::WRITE_MINUTE;
 use forms::call::WRITE_SITE;
-use forms::put;
 use forms::take::SECOND_AT;
 use forms::take::part;
 use forms::take::u32_of;
@@ -59,9 +58,9 @@ fn of_account(call: usize, account: Account, run: &[u8], out: &mut [u8], at: usi
     match call {
         CHECK => checking::check(account, run, out, at),
         TOTAL => sheet::put_total(out, at, account),
-        COUNTS => year::counts(account, out, at),
-        CLOSE => year::close(account, out, at),
-        CHART => year::chart(account, out, at),
+        COUNTS => desk_year::counts(account, out, at),
+        CLOSE => desk_year::close(account, out, at),
+        CHART => desk_year::chart(account, out, at),
         _ => at,
     }
 }

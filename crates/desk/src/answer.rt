@@ -1,6 +1,7 @@
 // The answer to a line.
 ghost use Rattle.desk_account.specs.Desk.{Ready};
 use crate::act::act;
+use answers::put;
 use desk_account::turn::Desk;
 use desk_account::turn::Turn;
 use forms::call::NONE;
@@ -8,7 +9,6 @@ use forms::call::OPEN;
 use forms::call::call_of;
 use forms::call::words_of;
 use forms::expected;
-use forms::put;
 use forms::take::Fit;
 use forms::take::Taken;
 

@@ -1,13 +1,11 @@
 // Lines come in chunks, which end anywhere.
-ghost use Prim.Native.Nat.{_≤_};
-ghost use lib.ListN.{length};
 ghost use Rattle.desk_account.specs.Desk.{Ready};
 use crate::answer::answer;
+use answers::LINE_END;
+use answers::end_of;
 use desk_account::turn::Desk;
 use desk_account::turn::Turn;
 use forms::expected;
-use forms::pieces::LINE_END;
-use forms::pieces::end_of;
 
 // What is heard of a line that is longer than its buffer: more than any buffer has.
 const TOO_LONG: usize = 18_446_744_073_709_551_615;

@@ -1,6 +1,7 @@
 // Takes lines of text from standard input, each a call of the library, and answers each with a line on standard output.
 mod act;
 mod answer;
+mod checking;
 mod hearing;
 
 ghost use mathlib.Core.Path.{_≡_};

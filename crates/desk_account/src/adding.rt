@@ -2,7 +2,7 @@
 ghost use Rattle.account.specs.Kept.{Kept};
 use account::Account;
 use account::Added;
-use forms::answer::answer;
+use answers::answer;
 use forms::take::part;
 use refusals::Verdict;
 use tool06::Judged;

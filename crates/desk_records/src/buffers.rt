@@ -1,6 +1,6 @@
 // The calls that write into a lent buffer: `write-site`, `write-minute` and `single`, the C call. The buffer holds a5 before.
-use forms::answer::answer;
-use forms::put;
+use answers::answer;
+use answers::put;
 use forms::take::u32_of;
 use minute::Gas;
 use minute::Minute;

@@ -1,6 +1,6 @@
 // The calls that read a record: `site`, `minute` and `class`.
-use forms::answer::answer;
-use forms::put;
+use answers::answer;
+use answers::put;
 use minute::Minute;
 use minute::MinuteRead;
 use site::Site;

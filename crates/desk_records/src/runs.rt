@@ -1,6 +1,6 @@
 // The call for a day of a run, `part`.
-use forms::answer::answer;
-use forms::put;
+use answers::answer;
+use answers::put;
 use minute::Minute;
 
 pub fn part(day: u32, records: &[u8], out: &mut [u8], at: usize) -> usize {

@@ -1,11 +1,11 @@
 // The calls, a row each, and the words that they take.
 ghost use Prim.Native.Nat.{_≤_};
 ghost use lib.ListN.{length};
-use crate::pieces::LINE_END;
-use crate::pieces::end_of;
 use crate::take::Taken;
 use crate::take::part;
 use crate::take::take;
+use answers::LINE_END;
+use answers::end_of;
 
 // Of each call its name, a letter for the kind of each of its words, and what its form has after the name.
 pub(crate) fn rows() -> [u8; 380] {

@@ -1,19 +1,19 @@
 // What was expected where a line is no call.
-use crate::answer::answer;
 use crate::call::Call;
 use crate::call::NONE;
 use crate::call::name_in;
 use crate::call::rows;
 use crate::call::word_in;
-use crate::pieces::LINE_END;
-use crate::pieces::end_of;
-use crate::put;
 use crate::take::Fit;
 use crate::take::HEX;
 use crate::take::SECOND;
 use crate::take::SIGNED;
 use crate::take::most_of;
 use crate::take::part;
+use answers::LINE_END;
+use answers::answer;
+use answers::end_of;
+use answers::put;
 
 pub fn too_long(out: &mut [u8], at: usize) -> usize {
     put::text(

@@ -15,7 +15,7 @@ use Rattle.tool06.specs.Tool.{Masses}
 use Rattle.tool06.proofs.Sizes.{rule-below}
 use Rattle.counts.proofs.Laws.{one-more-at}
 use Rattle.account.specs.Adding.{entry, worth, withMinute}
-use Rattle.closing.specs.Closing.{co2e}
+use Rattle.account.specs.Closing.{co2e}
 use Rattle.account.specs.Kept.{Kept}
 use Rattle.account.specs.Opening.{fresh, opened}
 use Rattle.account.specs.declared.Account.{Account}

@@ -21,9 +21,9 @@ use Rattle.tool06.specs.Year.{PE-flare}
 use Rattle.tool06.proofs.Sums.{no-slack}
 use Rattle.tool06.proofs.Year.{PE-mg}
 use Rattle.account.specs.Adding.{isFull}
-use Rattle.closing.specs.Closing.{co2e, closing}
+use Rattle.account.specs.Closing.{co2e, closing}
 use Rattle.account.specs.declared.Account.{Account}
-use Rattle.closing.specs.declared.Closed.the-variants.{Tonnes}
+use Rattle.account.specs.declared.close.Closed.the-variants.{Tonnes}
 use Rattle.history.specs.Year.{Equation15}
 use Rattle.history.proofs.Calls.{reached-examined}
 use Rattle.history.proofs.Opening.{opened-stays}

@@ -13,7 +13,7 @@ use Rattle.sums.specs.Sums.{total, count}
 use Rattle.tool06.specs.Bounds.{Entry, IsAccepted, figuresOf, worthOf, exactOf}
 use Rattle.tool06.specs.Rules.{ruleCount}
 use Rattle.tool06.specs.Tool.{Each, Masses, Positive, AllPositive, by-equation-7}
-use Rattle.closing.specs.Closing.{co2e}
+use Rattle.account.specs.Closing.{co2e}
 use Rattle.account.specs.Kept.{Kept}
 use Rattle.account.specs.declared.Account.{Account}
 use Rattle.history.specs.History.{Reached}

@@ -3,9 +3,9 @@ use Prim.Native.Nat.{ℕ, _*_, _<_}
 use mathlib.Core.Path.{_≡_}
 use Rattle.exact.specs.Fractions.{Frac, _⊕_, _⊗_, _⊘_, whole, _≼_, _≺_}
 use Rattle.tool06.specs.Year.{PE-flare}
-use Rattle.closing.specs.Closing.{co2e, closing}
+use Rattle.account.specs.Closing.{co2e, closing}
 use Rattle.account.specs.declared.Account.{Account}
-use Rattle.closing.specs.declared.Closed.the-variants.{Tonnes}
+use Rattle.account.specs.declared.close.Closed.the-variants.{Tonnes}
 use Rattle.history.specs.Promises.{OfEvery}
 
 -- R87: an account with N minutes with gas beside PE in tonnes; co2e is in mg, 1,000,000,000 to a tonne

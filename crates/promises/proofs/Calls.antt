@@ -29,11 +29,12 @@ use Rattle.tool06.specs.Tool.{Masses}
 use Rattle.tool06.specs.declared.figures.Judged.{Judged}
 use Rattle.tool06.specs.declared.figures.Judged.the-variants.{Accepted, Refused}
 use Rattle.account.specs.Adding.{isFull, entry, addLines, answer, afterAnswer, addTo}
-use Rattle.closing.specs.Closing.{co2e, closing, inTonnes, chart}
+use Rattle.account.specs.Closing.{co2e, closing, chart}
+use Rattle.tonnes.specs.Tonnes.{inTonnes}
 use Rattle.account.specs.Opening.{openLines, fresh, opened}
-use Rattle.account.specs.Turn.{recordsOf, AddedAll, withAnswer, addAll}
+use Rattle.in_turn.specs.Turn.{recordsOf, AddedAll, withAnswer, addAll}
 use Rattle.account.specs.declared.Account.{Account}
-use Rattle.closing.specs.declared.Closed.the-variants.{Tonnes, Refused as NotClosed}
+use Rattle.account.specs.declared.close.Closed.the-variants.{Tonnes, Refused as NotClosed}
 use Rattle.run.specs.Check.{firstRefused, wholeOr, checked}
 use Rattle.day.specs.Part.{dayPart}
 use Rattle.host.specs.Single.{singleLines, single, singleFigures, returned, answerBytes, answerAfter}

@@ -8,9 +8,8 @@ use Rattle.tool06.proofs.Sums.{rounded-once, no-slack, masses-cancel}
 use Rattle.rules.proofs.Unique.{class-of-one}
 use Rattle.account.proofs.Accepted.{nothing-else}
 use Rattle.account.proofs.Laws.{only-opened}
-use Rattle.closing.proofs.Lossless.{lossless}
-use Rattle.account.proofs.Unique.{open-one, add-one, site-one, sums-one, minutes-one, counts-one}
-use Rattle.closing.proofs.Unique.{co2e-one, close-one, chart-one}
+use Rattle.account.proofs.Lossless.{lossless}
+use Rattle.account.proofs.Unique.{open-one, add-one, co2e-one, close-one, chart-one, site-one, sums-one, minutes-one, counts-one}
 use Rattle.day.proofs.Unique.{day-part-one}
 use Rattle.run.proofs.Unique.{check-run-one}
 use Rattle.host.proofs.Unique.{flare-minute-one}

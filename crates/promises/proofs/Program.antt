@@ -2,9 +2,9 @@
 use mathlib.Core.List.{List}
 use Prim.Native.Nat.{ℕ}
 use Rattle.account.specs.Adding.{addTo}
-use Rattle.account.specs.Turn.{recordsOf}
+use Rattle.in_turn.specs.Turn.{recordsOf}
 use Rattle.account.specs.declared.Account.{Account}
-use Rattle.account.proofs.Turn.{after-all}
+use Rattle.in_turn.proofs.Turn.{after-all}
 use Rattle.history.specs.History.{then, add}
 use Rattle.report.specs.Report.{report}
 use Rattle.promises.specs.Program.{Given, by, ReportsAreGiven}

@@ -23,9 +23,9 @@ use Rattle.tool06.specs.Bounds.{figuresOf}
 use Rattle.tool06.specs.Class.{classOf}
 use Rattle.tool06.specs.Tool.{Masses}
 use Rattle.account.specs.Adding.{isFull, entry, addLines, addTo}
-use Rattle.closing.specs.Closing.{co2e, closing, chart}
+use Rattle.account.specs.Closing.{co2e, closing, chart}
 use Rattle.account.specs.Opening.{openLines, fresh, opened}
-use Rattle.account.specs.Turn.{recordsOf}
+use Rattle.in_turn.specs.Turn.{recordsOf}
 use Rattle.account.specs.declared.Account.{Account}
 use Rattle.run.specs.Check.{checked}
 use Rattle.day.specs.Part.{dayPart}

@@ -21,8 +21,8 @@ use Rattle.tool06.specs.declared.class.Class.the-variants.{Open, Low, Tall}
 use Rattle.tool06.specs.declared.figures.Figures.{Figures}
 use Rattle.tool06.specs.declared.figures.Judged.{Judged}
 use Rattle.tool06.specs.declared.figures.Judged.the-variants.{Accepted, Refused}
-use Rattle.closing.specs.declared.Closed.{Closed}
-use Rattle.closing.specs.declared.Closed.the-variants.{Tonnes, Refused as NotClosed}
+use Rattle.account.specs.declared.close.Closed.{Closed}
+use Rattle.account.specs.declared.close.Closed.the-variants.{Tonnes, Refused as NotClosed}
 use Rattle.run.specs.declared.Checked.{Checked}
 use Rattle.run.specs.declared.Checked.the-variants.{Fine as NoneRefused, Run, At}
 

@@ -11,9 +11,9 @@ use Rattle.writing.proofs.write_minute.Reads as write-minute
 use Rattle.rules.proofs.class_of.Reads as class-of
 use Rattle.account.proofs.Account.open.Reads as open-account
 use Rattle.account.proofs.Account.add.Reads as add
-use Rattle.closing.proofs.co2e.Reads as co2e
-use Rattle.closing.proofs.close.Reads as close
-use Rattle.closing.proofs.chart.Reads as chart
+use Rattle.account.proofs.Account.co2e.Reads as co2e
+use Rattle.account.proofs.Account.close.Reads as close
+use Rattle.account.proofs.Account.chart.Reads as chart
 use Rattle.account.proofs.Account.site.Reads as site
 use Rattle.account.proofs.Account.sums.Reads as sums
 use Rattle.account.proofs.Account.minutes.Reads as minutes

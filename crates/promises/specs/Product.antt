@@ -5,8 +5,7 @@ use Rattle.site.specs.Promises.{siteKind}
 use Rattle.minute.specs.Promises.{minuteKind}
 use Rattle.tool06.specs.Promises.{FedForm, ShortForm, SignOfF, KPositive, EquationSeven}
 use Rattle.tool06.specs.Bounds.{RoundedOnce, NoSlack, MassesCancel}
-use Rattle.account.specs.Promises.{OnlyOpened, NothingElse}
-use Rattle.closing.specs.Promises.{Lossless}
+use Rattle.account.specs.Promises.{OnlyOpened, NothingElse, Lossless}
 use Rattle.history.specs.Promises.{EveryKept, Histories, OpenedStays, ByAnyMasses, DemandThree, DemandThreeBySeven}
 use Rattle.history.specs.Year.{Equation15}
 use Rattle.worked.specs.Table.{TableHolds}

@@ -3,10 +3,10 @@ use Prim.Native.Nat.{ℕ, _≤_}
 use native.Mathlib.Omega.{arith}
 use lib.ListN.{length, length-append}
 use Rattle.sums.specs.declared.Sums.{Sums}
-use Rattle.closing.specs.Closing.{co2e, closing}
+use Rattle.account.specs.Closing.{co2e, closing}
 use Rattle.account.specs.declared.Account.{Account}
-use Rattle.closing.specs.declared.Closed.{Closed}
-use Rattle.closing.specs.declared.Closed.the-variants.{Tonnes, Refused as Missing}
+use Rattle.account.specs.declared.close.Closed.{Closed}
+use Rattle.account.specs.declared.close.Closed.the-variants.{Tonnes, Refused as Missing}
 use Rattle.text.proofs.Decimals.{decimal-within}
 use Rattle.lines.proofs.NoneCut.{methane-within}
 use Rattle.sheet.specs.Promises.{SheetUncut}

@@ -2,10 +2,10 @@
 use Prim.Native.Nat.{ℕ}
 use mathlib.Core.List.{List, _++_}
 use Rattle.sums.specs.declared.Sums.{Sums}
-use Rattle.closing.specs.Closing.{co2e, closing}
+use Rattle.account.specs.Closing.{co2e, closing}
 use Rattle.account.specs.declared.Account.{Account}
-use Rattle.closing.specs.declared.Closed.{Closed}
-use Rattle.closing.specs.declared.Closed.the-variants.{Tonnes, Refused as Missing}
+use Rattle.account.specs.declared.close.Closed.{Closed}
+use Rattle.account.specs.declared.close.Closed.the-variants.{Tonnes, Refused as Missing}
 use Rattle.text.specs.Text.{text, decimal}
 use Rattle.lines.specs.Lines.{methane}
 

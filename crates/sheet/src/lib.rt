@@ -7,7 +7,7 @@ ghost use Rattle.text.specs.Places.{PutFrom};
 ghost use Rattle.room.specs.Places.{placed, placeAfter};
 ghost use Rattle.sheet.specs.Sheet.{sumsText, totalLine, standing, yearLine};
 use account::Account;
-use closing::Closed;
+use account::Closed;
 use lines::LONGEST;
 use lines::put_methane;
 use room::room;
@@ -34,7 +34,7 @@ pub fn put_total(out: &mut [u8], at: usize, account: Account) -> usize
     ensures { λ r. ⌜ (r ≡ placeAfter (now (out .entry)) at (totalLine account)) × (now (out .exit) ≡ placed (now (out .entry)) at (totalLine account)) ⌝ }
 {
     let sums = account.sums();
-    let co2e = closing::co2e(account);
+    let co2e = account.co2e();
     if LONGEST <= room(out, at) {
         let at = put_text(out, at, b"total ");
         let at = put_sums(out, at, sums, co2e);
@@ -64,7 +64,7 @@ pub fn put_year(out: &mut [u8], at: usize, account: Account) -> usize
     ensures { λ r. ⌜ (r ≡ placeAfter (now (out .entry)) at (yearLine account)) × (now (out .exit) ≡ placed (now (out .entry)) at (yearLine account)) ⌝ }
 {
     let site = account.site();
-    let closed = closing::close(account);
+    let closed = account.close();
     if LONGEST <= room(out, at) {
         let at = put_text(out, at, b"year ");
         let at = put_decimal(out, at, site.year as u64);

@@ -1,3 +1,0 @@
-pub mod Lossless
-pub mod Unique
-pub mod Within

@@ -1,2 +1,0 @@
-pub mod Closing
-pub mod Promises
