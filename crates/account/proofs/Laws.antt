@@ -19,7 +19,8 @@ use Rattle.tool06.specs.Tool.{Masses, Positive}
 use Rattle.tool06.specs.declared.figures.Figures.{Figures}
 use Rattle.tool06.specs.declared.figures.Judged.{Judged}
 use Rattle.tool06.specs.declared.figures.Judged.the-variants.{Accepted, Refused}
-use Rattle.account.specs.Adding.{worth, withMinute, afterAnswer, answer, addTo}
+use Rattle.due.specs.Answer.{answer}
+use Rattle.account.specs.Adding.{due, worth, withMinute, afterAnswer, addTo}
 use Rattle.account.specs.Kept.{Kept}
 use Rattle.account.specs.scaffold.Small.{Small}
 use Rattle.account.specs.Opening.{openLines, fresh, opened}
@@ -76,9 +77,9 @@ module _ {a : Account} {f : Figures} (kept : Kept a) (small : Small f) (room : a
 -- adding keeps what it requires, whatever the bytes
 pub kept-add : (m : Masses) → Positive m → {a : Account} → Kept a → (bytes : List ℕ) → Kept (addTo m a bytes .account)
 unfolding addTo
-kept-add m pos {a} kept bytes = by-answer (answer m a bytes) refl
+kept-add m pos {a} kept bytes = by-answer (answer m (due a) bytes) refl
   where
-    by-answer : (j : Judged) → answer m a bytes ≡ j → Kept (afterAnswer a j)
+    by-answer : (j : Judged) → answer m (due a) bytes ≡ j → Kept (afterAnswer a j)
     by-answer (Accepted f) e = let told = accepted m pos a (site-examined kept) bytes f e in kept-with kept (told .0) (told .1)
     by-answer (Refused r) e = kept
 
@@ -87,7 +88,7 @@ pub minutes-more : (a : Account) (f : Figures) → withMinute a f .sums .minutes
 unfolding withMinute _⊞_
 minutes-more a f = ap (λ (n : ℕ). a .sums .minutes + n) (minutes-one f)
 
-pub minutes-on : (m : Masses) (a : Account) (bytes : List ℕ) (f : Figures) → answer m a bytes ≡ Accepted f → addTo m a bytes .account .sums .minutes ≡ a .sums .minutes + 1
+pub minutes-on : (m : Masses) (a : Account) (bytes : List ℕ) (f : Figures) → answer m (due a) bytes ≡ Accepted f → addTo m a bytes .account .sums .minutes ≡ a .sums .minutes + 1
 unfolding addTo
 minutes-on m a bytes f e = rw e (minutes-more a f)
 

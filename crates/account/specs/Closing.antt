@@ -7,7 +7,8 @@ use Rattle.refusals.specs.Tables.{when, firstOf}
 use Rattle.refusals.specs.declared.refusal.Refusal.the-variants.{Incomplete}
 use Rattle.records.specs.House.{answered}
 use Rattle.tonnes.specs.Tonnes.{inTonnes}
-use Rattle.account.specs.Adding.{isFull}
+use Rattle.due.specs.Answer.{isFull}
+use Rattle.account.specs.Adding.{due}
 use Rattle.account.specs.declared.Account.{Account}
 use Rattle.account.specs.declared.close.Closed.{Closed}
 use Rattle.account.specs.declared.close.Closed.the-variants.{Tonnes, Refused}
@@ -19,7 +20,7 @@ co2e a = a .site .gwp * a .sums .emitted
 
 -- R48: "Closing gives tonnes CO2 equivalent, rounded up, once every minute is in", else 20
 unfoldable pub closing : Account → Closed
-closing a = answered Tonnes Refused (ceilDiv (co2e a) 1000000000) (firstOf (when (not (isFull a)) Incomplete ∷ []))
+closing a = answered Tonnes Refused (ceilDiv (co2e a) 1000000000) (firstOf (when (not (isFull (due a))) Incomplete ∷ []))
 
 -- R49: "A chart point holds fed methane and CO2 equivalent in tonnes"
 unfoldable pub chart : Account → Point

@@ -14,7 +14,8 @@ use Rattle.minute.specs.Record.{minuteOf}
 use Rattle.tool06.specs.Tool.{Masses}
 use Rattle.tool06.specs.declared.figures.Figures.{Figures}
 use Rattle.tool06.specs.declared.figures.Judged.the-variants.{Accepted, Refused}
-use Rattle.account.specs.Adding.{inTimeAt, answer, addTo}
+use Rattle.due.specs.Answer.{inTimeAt, answer}
+use Rattle.account.specs.Adding.{due, addTo}
 use Rattle.account.specs.Closing.{co2e}
 use Rattle.account.specs.Kept.{Kept}
 use Rattle.account.specs.Opening.{opened}
@@ -26,16 +27,16 @@ OnlyOpened = (s : Site) (days : List ℤ) → Kept (opened s days .account) ↔ 
 
 -- R58, R83: "A refusal returns its number and nothing else; the account .. stay[s]"
 abbrev pub RefusedStays : Type 0
-RefusedStays = (m : Masses) (a : Account) (bytes : List ℕ) (r : Refusal) → answer m a bytes ≡ Refused r → addTo m a bytes .account ≡ a
+RefusedStays = (m : Masses) (a : Account) (bytes : List ℕ) (r : Refusal) → answer m (due a) bytes ≡ Refused r → addTo m a bytes .account ≡ a
 
 -- R45: a minute's figures depend on nothing but its site, its record and whether maintenance is in time: two accounts that agree in these give the same, whatever minutes they took before
 abbrev pub NothingElse : Type 0
 NothingElse =
     (m : Masses) (a b : Account) (bytes : List ℕ) (f g : Figures)
     → a .site ≡ b .site
-    → inTimeAt a (minuteOf bytes .number) ≡ inTimeAt b (minuteOf bytes .number)
-    → answer m a bytes ≡ Accepted f
-    → answer m b bytes ≡ Accepted g
+    → inTimeAt (due a) (minuteOf bytes .number) ≡ inTimeAt (due b) (minuteOf bytes .number)
+    → answer m (due a) bytes ≡ Accepted f
+    → answer m (due b) bytes ≡ Accepted g
     → f ≡ g
 
 -- R49: as an f64 it is finite, not negative, and mg / 1 in size

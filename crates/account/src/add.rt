@@ -1,16 +1,13 @@
 // Adding a minute.
 ghost use mathlib.Core.Path.{_≡_};
 ghost use Prim.Native.Nat.{_<_};
-ghost use Rattle.account.specs.Adding.{isFull, inTimeAt, withGas, worth, withMinute, answer, addTo};
+ghost use Rattle.account.specs.Adding.{due, withGas, worth, withMinute, addTo};
 ghost use Rattle.account.specs.Kept.{Kept};
 ghost use Rattle.account.specs.scaffold.Small.{Small};
 ghost use Rattle.site.specs.Rules.{yearMinutes};
 ghost use Rattle.tool06.specs.Tool.{Masses, Positive};
 use crate::Account;
-use minute::Minute;
-use refusals::Refusal;
-use refusals::Verdict;
-use site::Site;
+use due::Due;
 use sums::Sums;
 use tool06::Figures;
 use tool06::Judged;
@@ -42,42 +39,17 @@ fn worth(figures: Figures) -> Sums
 }
 
 impl Account {
-    // Whether the year's last minute is in.
-    pub(crate) fn is_full(self) -> bool
-        ensures { λ r. ⌜ r ≡ isFull self ⌝ }
+    // The minute that is expected next, with what it is answered by.
+    pub(crate) fn due(self) -> Due
+        ensures { λ r. ⌜ r ≡ due self ⌝ }
     {
         let site = self.site;
-        let sums = self.sums;
-        site.minutes() <= sums.minutes
-    }
-
-    // Whether maintenance is in time on a minute's own day.
-    fn in_time(self, number: u32) -> bool
-        requires { ⌜ Kept self ⌝ }
-        ensures { λ r. ⌜ r ≡ inTimeAt self number ⌝ }
-    {
         let maintenance = self.maintenance;
-        let days = maintenance.days;
-        let listed = maintenance.listed;
-        let site = self.site;
-        maintenance::in_time(&days[0..listed], number / Site::DAY_MINUTES, site.days)
-    }
-
-    // The minute's figures and rule, or the first of the refusals 11, 1, 2 and 12 to 19.
-    fn answer(self, bytes: &[u8]) -> Judged
-        requires { ⌜ Kept self ⌝ }
-        ensures { λ r. ⌜ ((m : Masses) → Positive m → r ≡ answer m self (now (bytes .entry))) ⌝ }
-    {
-        let head = records::head(bytes, Minute::BYTES, Minute::VERSION);
-        let verdict = Verdict::Fine.also(self.is_full(), Refusal::Full).then(head);
-        match verdict {
-            Verdict::Refuse(r) => Judged::Refused(r),
-            Verdict::Fine => {
-                let minute = reading::minute_in(bytes);
-                let in_time = self.in_time(minute.number);
-                let sums = self.sums;
-                judge::judge(self.site, minute, minute.number != sums.minutes, in_time)
-            }
+        let sums = self.sums;
+        Due {
+            site,
+            maintenance,
+            minute: sums.minutes,
         }
     }
 
@@ -101,7 +73,7 @@ impl Account {
         requires { ⌜ Kept self ⌝ }
         ensures { λ r. ⌜ ((m : Masses) → Positive m → r ≡ addTo m self (now (bytes .entry))) ⌝ }
     {
-        let answer = self.answer(bytes);
+        let answer = self.due().answer(bytes);
         match answer {
             Judged::Accepted(figures) => Added {
                 answer,

@@ -35,7 +35,7 @@ impl Account {
         ensures { λ r. ⌜ r ≡ closing self ⌝ }
     {
         let mg = self.co2e();
-        if self.is_full() {
+        if self.due().is_full() {
             Closed::Tonnes(whole_tonnes(mg))
         } else {
             Closed::Refused(Refusal::Incomplete)

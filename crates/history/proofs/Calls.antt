@@ -11,10 +11,11 @@ use Rattle.tool06.specs.Tool.{Masses}
 use Rattle.tool06.specs.declared.figures.Figures.{Figures}
 use Rattle.tool06.specs.declared.figures.Judged.{Judged}
 use Rattle.tool06.specs.declared.figures.Judged.the-variants.{Accepted, Refused}
-use Rattle.account.specs.Adding.{entry, withMinute, afterAnswer, answer, addTo}
+use Rattle.due.specs.Answer.{entry, answer}
+use Rattle.account.specs.Adding.{due, withMinute, afterAnswer, addTo}
 use Rattle.account.specs.Opening.{fresh, opened}
 use Rattle.account.specs.declared.Account.{Account}
-use Rattle.account.proofs.Accepted.{Taken, taken}
+use Rattle.due.proofs.Taken.{Taken, taken}
 use Rattle.account.proofs.Opens.{examined}
 use Rattle.history.specs.History.{Reached, at-first, then, add, check-run, close, chart, co2e, grown}
 
@@ -28,7 +29,7 @@ module _ {m : Masses} {s : Site} {days : List ℤ} where
   pub reached-examined : {a : Account} {es : List Entry} → Reached m s days a es → Examined (a .site)
   unfolding opened fresh addTo
   reached-examined (at-first fine) = examined s days fine
-  reached-examined (then {a = b} r (add bytes)) = rw (after-site b (answer m b bytes)) (reached-examined r)
+  reached-examined (then {a = b} r (add bytes)) = rw (after-site b (answer m (due b) bytes)) (reached-examined r)
   reached-examined (then r (check-run run)) = reached-examined r
   reached-examined (then r close) = reached-examined r
   reached-examined (then r chart) = reached-examined r
@@ -36,24 +37,24 @@ module _ {m : Masses} {s : Site} {days : List ℤ} where
 
 module _ (m : Masses) (s : Site) (days : List ℤ) (P : Account → List Entry → Type 0) where
   abbrev OneMore : Account → List Entry → List ℕ → Figures → Type 0
-  OneMore a es bytes f = P (withMinute a f) (es ++ (entry a bytes ∷ []))
+  OneMore a es bytes f = P (withMinute a f) (es ++ (entry (due a) bytes ∷ []))
 
   -- it stays with one accepted minute more
   abbrev Stays : Type 0
   Stays =
       (a : Account) (es : List Entry) → Reached m s days a es → P a es →
-      (bytes : List ℕ) → let f = figuresOf m (entry a bytes) in Taken m a bytes f → OneMore a es bytes f
+      (bytes : List ℕ) → let f = figuresOf m (entry (due a) bytes) in Taken m (due a) bytes f → OneMore a es bytes f
 
-  added : Stays → {a : Account} {es : List Entry} → Reached m s days a es → P a es → (bytes : List ℕ) → P (addTo m a bytes .account) (grown es (entry a bytes) (answer m a bytes))
+  added : Stays → {a : Account} {es : List Entry} → Reached m s days a es → P a es → (bytes : List ℕ) → P (addTo m a bytes .account) (grown es (entry (due a) bytes) (answer m (due a) bytes))
   unfolding addTo
-  added more {a} {es} r p bytes = by-answer (answer m a bytes) refl
+  added more {a} {es} r p bytes = by-answer (answer m (due a) bytes) refl
     where
-      one-more : (f : Figures) → Taken m a bytes f → OneMore a es bytes f
+      one-more : (f : Figures) → Taken m (due a) bytes f → OneMore a es bytes f
       one-more f t =
-          subst (λ (g : Figures). Taken m a bytes g → OneMore a es bytes g) (sym (t .figures-are)) (more a es r p bytes) t
+          subst (λ (g : Figures). Taken m (due a) bytes g → OneMore a es bytes g) (sym (t .figures-are)) (more a es r p bytes) t
 
-      by-answer : (j : Judged) → answer m a bytes ≡ j → P (afterAnswer a j) (grown es (entry a bytes) j)
-      by-answer (Accepted f) e = one-more f (taken m a (reached-examined r) bytes f e)
+      by-answer : (j : Judged) → answer m (due a) bytes ≡ j → P (afterAnswer a j) (grown es (entry (due a) bytes) j)
+      by-answer (Accepted f) e = one-more f (taken m (due a) (reached-examined r) bytes f e)
       by-answer (Refused why) e = p
 
   pub every : (opened s days .verdict ≡ Fine → P (opened s days .account) []) → Stays → {a : Account} {es : List Entry} → Reached m s days a es → P a es

@@ -14,12 +14,14 @@ use Rattle.tool06.specs.Rules.{ruleCount}
 use Rattle.tool06.specs.Tool.{Masses}
 use Rattle.tool06.proofs.Sizes.{rule-below}
 use Rattle.counts.proofs.Laws.{one-more-at}
-use Rattle.account.specs.Adding.{entry, worth, withMinute}
+use Rattle.due.specs.Answer.{entry}
+use Rattle.account.specs.Adding.{due, worth, withMinute}
 use Rattle.account.specs.Closing.{co2e}
 use Rattle.account.specs.Kept.{Kept}
 use Rattle.account.specs.Opening.{fresh, opened}
 use Rattle.account.specs.declared.Account.{Account}
-use Rattle.account.proofs.Accepted.{worth-is, small, room}
+use Rattle.due.proofs.Taken.{room}
+use Rattle.account.proofs.Accepted.{worth-is, small}
 use Rattle.account.proofs.Laws.{minutes-one, kept-with, only-opened}
 use Rattle.history.specs.Promises.{Holds, OfEvery, EveryKept}
 use Rattle.history.proofs.Calls.{every}
@@ -27,7 +29,7 @@ use Rattle.history.proofs.Calls.{every}
 pub every-kept : EveryKept
 every-kept m pos s days a es =
     every m s days (λ a es. Kept a) (only-opened s days .1)
-    (λ a es r kept bytes t. kept-with kept (small m pos (entry a bytes) (t .entry-accepted)) (room t))
+    (λ a es r kept bytes t. kept-with kept (small m pos (entry (due a) bytes) (t .entry-accepted)) (room t))
 
 module _ (m : Masses) where
   opened-holds : (s : Site) (days : List ℤ) → Holds m (opened s days .account) []
@@ -59,4 +61,4 @@ module _ (m : Masses) where
 pub holds : OfEvery (λ m s days a es. Holds m a es)
 holds m pos s days a es =
     every m s days (Holds m) (λ fine. opened-holds m s days)
-    (λ a es r h bytes t. holds-more m (every-kept m pos s days a es r) h (entry a bytes))
+    (λ a es r h bytes t. holds-more m (every-kept m pos s days a es r) h (entry (due a) bytes))

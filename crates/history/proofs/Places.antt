@@ -10,8 +10,9 @@ use Rattle.site.specs.declared.Site.{Site}
 use Rattle.minute.specs.Record.{minuteOf}
 use Rattle.tool06.specs.Bounds.{Entry, AllAccepted, start, next}
 use Rattle.tool06.specs.declared.figures.Figures.{Figures}
-use Rattle.account.specs.Adding.{inTimeAt, entry}
-use Rattle.account.proofs.Accepted.{Taken}
+use Rattle.due.specs.Answer.{inTimeAt, entry}
+use Rattle.account.specs.Adding.{due}
+use Rattle.due.proofs.Taken.{Taken}
 use Rattle.history.specs.Promises.{InPlace, FromMinute, OfEvery}
 use Rattle.history.proofs.Calls.{every}
 use Rattle.history.proofs.Holds.{holds}
@@ -27,7 +28,7 @@ module _ (s : Site) (days : List ℤ) where
   all-accepted k (e ∷ es) all = next (all .0 .accepted) (all-accepted (suc k) es (all .1))
 
 -- the minute that is taken next
-next-in-place : OfEvery (λ m s days a es. (bytes : List ℕ) (f : Figures) → Taken m a bytes f → InPlace s days (0 + length es) (entry a bytes))
+next-in-place : OfEvery (λ m s days a es. (bytes : List ℕ) (f : Figures) → Taken m (due a) bytes f → InPlace s days (0 + length es) (entry (due a) bytes))
 unfolding inTimeAt
 next-in-place m pos s days a es r bytes f t =
     let same = opened-stays m pos s days a es r in
@@ -42,4 +43,4 @@ next-in-place m pos s days a es r bytes f t =
 pub in-places : OfEvery (λ m s days a es. FromMinute s days 0 es)
 in-places m pos s days a es =
     every m s days (λ a es. FromMinute s days 0 es) (λ fine. tt)
-    (λ a es r before bytes t. from-more s days 0 es (entry a bytes) before (next-in-place m pos s days a es r bytes _ t))
+    (λ a es r before bytes t. from-more s days 0 es (entry (due a) bytes) before (next-in-place m pos s days a es r bytes _ t))

@@ -12,9 +12,10 @@ use Rattle.tool06.specs.Tool.{Masses, Positive, by-equation-7}
 use Rattle.tool06.specs.declared.figures.Judged.the-variants.{Accepted, Refused}
 use Rattle.tool06.proofs.Kept.{equation-seven}
 use Rattle.tool06.proofs.Sums.{bounds-of-any, masses-cancel}
-use Rattle.account.specs.Adding.{entry, addLines, answer, addTo}
+use Rattle.due.specs.Answer.{entry, addLines, answer}
+use Rattle.account.specs.Adding.{due, addTo}
 use Rattle.account.specs.declared.Account.{Account}
-use Rattle.account.proofs.Accepted.{taken}
+use Rattle.due.proofs.Taken.{taken}
 use Rattle.history.specs.History.{at-first, then, add, check-run, close, chart, co2e}
 use Rattle.history.specs.Promises.{Histories, ByAnyMasses, DemandThree, DemandThreeBySeven}
 use Rattle.history.proofs.Calls.{reached-examined}
@@ -30,13 +31,13 @@ demand-three m pos s days a es reached =
     (bounds-of-any m pos es (all-accepted s days 0 es (in-places m pos s days a es reached)))
 
 -- adding gives the same by any positive masses
-same-answer : (m m' : Masses) → Positive m → Positive m' → (a : Account) → Examined (a .site) → (bytes : List ℕ) → answer m a bytes ≡ answer m' a bytes
+same-answer : (m m' : Masses) → Positive m → Positive m' → (a : Account) → Examined (a .site) → (bytes : List ℕ) → answer m (due a) bytes ≡ answer m' (due a) bytes
 unfolding answer
-same-answer m m' pos pos' a examined bytes = by-verdict (firstOf (addLines a bytes)) refl
+same-answer m m' pos pos' a examined bytes = by-verdict (firstOf (addLines (due a) bytes)) refl
   where
-    by-verdict : (v : Verdict) → firstOf (addLines a bytes) ≡ v → answered Accepted Refused (figuresOf m (entry a bytes)) v ≡ answered Accepted Refused (figuresOf m' (entry a bytes)) v
+    by-verdict : (v : Verdict) → firstOf (addLines (due a) bytes) ≡ v → answered Accepted Refused (figuresOf m (entry (due a) bytes)) v ≡ answered Accepted Refused (figuresOf m' (entry (due a) bytes)) v
     by-verdict Fine fine =
-        ap Accepted (masses-cancel m m' pos pos' (entry a bytes) (taken m a examined bytes (figuresOf m (entry a bytes)) (rw fine refl) .entry-accepted) .2)
+        ap Accepted (masses-cancel m m' pos pos' (entry (due a) bytes) (taken m (due a) examined bytes (figuresOf m (entry (due a) bytes)) (rw fine refl) .entry-accepted) .2)
     by-verdict (Refuse r) refused = refl
 
 pub by-any-masses : ByAnyMasses

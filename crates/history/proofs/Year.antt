@@ -20,7 +20,8 @@ use Rattle.tool06.specs.Bounds.{exactOf}
 use Rattle.tool06.specs.Year.{PE-flare}
 use Rattle.tool06.proofs.Sums.{no-slack}
 use Rattle.tool06.proofs.Year.{PE-mg}
-use Rattle.account.specs.Adding.{isFull}
+use Rattle.due.specs.Answer.{isFull}
+use Rattle.account.specs.Adding.{due}
 use Rattle.account.specs.Closing.{co2e, closing}
 use Rattle.account.specs.declared.Account.{Account}
 use Rattle.account.specs.declared.close.Closed.the-variants.{Tonnes}
@@ -43,9 +44,9 @@ gwp-least s fine = ltb-false (s .gwp) 1 (or-false (ltb (s .gwp) 1) (ltb 100 (s .
 -- closing gives tonnes only where it gives these
 tonnes-are : (a : Account) (t : ℕ) → closing a ≡ Tonnes t → t ≡ ceilDiv (co2e a) 1000000000
 unfolding closing
-tonnes-are a t e = by-full (isFull a) refl
+tonnes-are a t e = by-full (isFull (due a)) refl
   where
-    by-full : (full : Bool) → isFull a ≡ full → t ≡ ceilDiv (co2e a) 1000000000
+    by-full : (full : Bool) → isFull (due a) ≡ full → t ≡ ceilDiv (co2e a) 1000000000
     by-full true f = let z = rw f at e in cc
     by-full false f = let z = rw f at e in absurd (let y : _≡_ {A = ℕ} 0 1 = cc in omega arith)
 

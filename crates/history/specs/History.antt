@@ -9,7 +9,8 @@ use Rattle.tool06.specs.Bounds.{Entry}
 use Rattle.tool06.specs.Tool.{Masses}
 use Rattle.tool06.specs.declared.figures.Judged.{Judged}
 use Rattle.tool06.specs.declared.figures.Judged.the-variants.{Accepted, Refused}
-use Rattle.account.specs.Adding.{entry, answer, addTo}
+use Rattle.due.specs.Answer.{entry, answer}
+use Rattle.account.specs.Adding.{due, addTo}
 use Rattle.account.specs.Opening.{opened}
 use Rattle.account.specs.declared.Account.{Account}
 
@@ -33,7 +34,7 @@ grown es e (Refused r) = es
 
 -- R59: the minutes accepted, after a call
 abbrev pub minutesAfter : Masses → Account → List Entry → Call → List Entry
-minutesAfter m a es (add bytes) = grown es (entry a bytes) (answer m a bytes)
+minutesAfter m a es (add bytes) = grown es (entry (due a) bytes) (answer m (due a) bytes)
 minutesAfter m a es (check-run run) = es
 minutesAfter m a es close = es
 minutesAfter m a es chart = es

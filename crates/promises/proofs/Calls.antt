@@ -28,7 +28,8 @@ use Rattle.tool06.specs.declared.class.Class.the-variants.{Open as Open', Low, 
 use Rattle.tool06.specs.Tool.{Masses}
 use Rattle.tool06.specs.declared.figures.Judged.{Judged}
 use Rattle.tool06.specs.declared.figures.Judged.the-variants.{Accepted, Refused}
-use Rattle.account.specs.Adding.{isFull, entry, addLines, answer, afterAnswer, addTo}
+use Rattle.due.specs.Answer.{isFull, entry, addLines, answer}
+use Rattle.account.specs.Adding.{due, afterAnswer, addTo}
 use Rattle.account.specs.Closing.{co2e, closing, chart}
 use Rattle.tonnes.specs.Tonnes.{inTonnes}
 use Rattle.account.specs.Opening.{openLines, fresh, opened}
@@ -84,11 +85,11 @@ opening-an-account s days = record { in-order = refl; decided = by-verdict (fres
 
 adding-a-minute : AddingAMinute
 unfolding addTo answer addLines headLines minuteLines
-adding-a-minute m a b = record { in-order = refl; decided = by-table Accepted Refused saidOfJudged (figuresOf m (entry a b)) refl (λ r. refl) (addLines a b) }
+adding-a-minute m a b = record { in-order = refl; decided = by-table Accepted Refused saidOfJudged (figuresOf m (entry (due a) b)) refl (λ r. refl) (addLines (due a) b) }
 
 closing-a-year : ClosingAYear
 unfolding closing
-closing-a-year a = record { in-order = refl; decided = by-table Tonnes NotClosed saidOfClosed (ceilDiv (co2e a) 1000000000) refl (λ r. refl) (when (not (isFull a)) Incomplete ∷ []) }
+closing-a-year a = record { in-order = refl; decided = by-table Tonnes NotClosed saidOfClosed (ceilDiv (co2e a) 1000000000) refl (λ r. refl) (when (not (isFull (due a))) Incomplete ∷ []) }
 
 same-number : {A : Type 0} (v : A) (w : Verdict) → returned w ≡ saidOfVerdict v w .number
 unfolding returned
@@ -141,7 +142,7 @@ step a (Refused r) rest later e = stops (numberOf r) (a .sums .minutes) later (n
 in-turn : (m : Masses) (a : Account) (bs : List (List ℕ)) → saidOfChecked (firstRefused (addAll m a bs)) ≡ firstSaid m a bs
 unfolding addTo
 in-turn m a [] = refl
-in-turn m a (b ∷ bs) = step a (answer m a b) _ _ (in-turn m (afterAnswer a (answer m a b)) bs)
+in-turn m a (b ∷ bs) = step a (answer m (due a) b) _ _ (in-turn m (afterAnswer a (answer m (due a) b)) bs)
 
 checking-a-run : CheckingARun
 unfolding checked
@@ -206,7 +207,7 @@ account-stays a (Refused r) h = refl
 pub refused-changes-nothing : RefusedChangesNothing
 unfolding answerAfter addTo
 refused-changes-nothing = record {
-  adding-a-minute = λ m a b h. account-stays a (answer m a b) h;
+  adding-a-minute = λ m a b h. account-stays a (answer m (due a) b) h;
   writing-a-site = λ s out h. stays _ out (siteBytes s) (writeSite s out) h;
   writing-a-minute = λ n out h. stays _ out (minuteBytes n) (writeMinute n out) h;
   a-single-minute = λ m site minute days answer h. stays-returned answer (answerBytes (singleFigures m site minute days)) (single site minute answer) h;

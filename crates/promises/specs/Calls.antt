@@ -22,7 +22,8 @@ use Rattle.minute.specs.declared.Minute.{Minute}
 use Rattle.tool06.specs.Bounds.{figuresOf}
 use Rattle.tool06.specs.Class.{classOf}
 use Rattle.tool06.specs.Tool.{Masses}
-use Rattle.account.specs.Adding.{isFull, entry, addLines, addTo}
+use Rattle.due.specs.Answer.{isFull, entry, addLines}
+use Rattle.account.specs.Adding.{due, addTo}
 use Rattle.account.specs.Closing.{co2e, closing, chart}
 use Rattle.account.specs.Opening.{openLines, fresh, opened}
 use Rattle.in_turn.specs.Turn.{recordsOf}
@@ -70,11 +71,11 @@ OpeningAnAccount =
 abbrev pub AddingAMinute : Type 0
 AddingAMinute =
     (m : Masses) (a : Account) (b : List ℕ) →
-    By (11 ∷ 1 ∷ 2 ∷ 12 to 19) (addLines a b) (saidOfJudged (addTo m a b .answer)) (figuresOf m (entry a b))
+    By (11 ∷ 1 ∷ 2 ∷ 12 to 19) (addLines (due a) b) (saidOfJudged (addTo m a b .answer)) (figuresOf m (entry (due a) b))
 
 -- R48: "Closing gives tonnes CO2 equivalent, rounded up, once every minute is in", else 20
 abbrev pub ClosingAYear : Type 0
-ClosingAYear = (a : Account) → By (20 ∷ []) (when (not (isFull a)) Incomplete ∷ []) (saidOfClosed (closing a)) (ceilDiv (co2e a) 1000000000)
+ClosingAYear = (a : Account) → By (20 ∷ []) (when (not (isFull (due a))) Incomplete ∷ []) (saidOfClosed (closing a)) (ceilDiv (co2e a) 1000000000)
 
 -- R64, R66: "Order: 22, 1 to 9, minute 1, 2, 12, 13 (minute beyond the year), 14 to 19. It returns 0 or the refusal's number"
 abbrev pub ASingleMinute : Type 0

@@ -1,35 +1,48 @@
-use mathlib.Core.Path.{sym, _∙_}
+use mathlib.Core.Path.{_≡_, sym, ap, _∙_}
 use borrow.Author.Needs.{needs}
+use Rattle.tool06.specs.Tool.{Masses, Positive}
 use Rattle.tool06.proofs.Ones.{ones, ones-positive}
-use Rattle.account.specs.Adding.{addTo}
+use Rattle.due.specs.Answer.{answer}
+use Rattle.due.specs.declared.Due.{Due}
+use Rattle.account.specs.Adding.{due, addTo}
 use Rattle.account.proofs.Accepted.{accepted}
 use Rattle.account.proofs.Opens.{site-examined}
 use Rattle.account.proofs.Account.add.Statement.{statement}
 use Rattle.account.proofs.Account.add.Tie as tie
 
+answer-requires : tie.Need-answer-requires
+answer-requires c κs =
+    let k = c .before .before .pre in
+    rw (c .due .ensures) (site-examined k, k .list-kept)
+
+-- the answer is the account's
+answered : (v : tie.After-answer) (m : Masses) → Positive m → let a = v .before .before .before .args in answer m (due (a .self)) (a .bytes .now) ≡ v .answer .result
+answered v m pos =
+    let a = v .before .before .before .args in
+    sym (v .answer .ensures m pos ∙ ap (λ (d : Due). answer m d (a .bytes .now)) (v .before .due .ensures))
+
 with-minute-requires : tie.Need-with-minute-requires
 with-minute-requires c κs =
     let v = c .before .before .before in
-    let e = accepted ones ones-positive _ (site-examined (v .before .before .pre)) _ _ (sym (v .answer .ensures ones ones-positive) ∙ c .before .answer2 .given .1) in
-    (v .before .before .pre, (e .0, e .1))
+    let start = v .before .before .before in
+    let k = start .pre in
+    let e = accepted ones ones-positive (start .args .self) (site-examined k) _ _ (answered v ones ones-positive ∙ c .before .answer2 .given .1) in
+    (k, (e .0, e .1))
 
 returns : tie.Need-returns
 unfolding addTo
-returns c m pos =
-    let v = c .before .before .before .before in
-    rw (sym (v .answer .ensures m pos) ∙ c .before .before .answer2 .given .1, c .with-minute .ensures)
+returns c m pos = rw (answered (c .before .before .before .before) m pos ∙ c .before .before .answer2 .given .1, c .with-minute .ensures)
 
 returns-2 : tie.Need-returns-2
 unfolding addTo
-returns-2 c m pos =
-    let v = c .before .before in
-    rw (sym (v .answer .ensures m pos), c .enum-told .given .1)
+returns-2 c m pos = rw (answered (c .before .before) m pos, c .enum-told .given .1)
 
 pub add-spec : {M : Type 1} → statement M
 add-spec =
     tie.close
     (tie.spec
     (λ c κs. search needs)
+    answer-requires
     (search needs)
     with-minute-requires
     (search needs)

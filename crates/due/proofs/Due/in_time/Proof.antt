@@ -3,10 +3,10 @@ use mathlib.Core.Path.{_≡_, ap, _∙_}
 use lib.ListN.{take}
 use native.Mathlib.Omega.{arith}
 use borrow.Author.Needs.{needs}
-use Rattle.account.specs.Adding.{inTimeAt}
+use Rattle.due.specs.Answer.{inTimeAt}
 use Rattle.maintenance.specs.Days.{inTime, listedDays}
-use Rattle.account.proofs.Account.in_time.Statement.{statement}
-use Rattle.account.proofs.Account.in_time.Tie as tie
+use Rattle.due.proofs.Due.in_time.Statement.{statement}
+use Rattle.due.proofs.Due.in_time.Tie as tie
 
 returns : tie.Need-returns
 unfolding inTimeAt listedDays

@@ -1,7 +1,7 @@
 use borrow.Author.Needs.{needs}
-use Rattle.account.specs.Adding.{isFull}
-use Rattle.account.proofs.Account.is_full.Statement.{statement}
-use Rattle.account.proofs.Account.is_full.Tie as tie
+use Rattle.due.specs.Answer.{isFull}
+use Rattle.due.proofs.Due.is_full.Statement.{statement}
+use Rattle.due.proofs.Due.is_full.Tie as tie
 
 returns : tie.Need-returns
 unfolding isFull

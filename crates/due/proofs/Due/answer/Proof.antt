@@ -11,10 +11,9 @@ use Rattle.minute.specs.Record.{minuteOf, minuteHeadLines}
 use Rattle.tool06.specs.Bounds.{figuresOf}
 use Rattle.tool06.specs.Judged.{judged, judgedLines}
 use Rattle.tool06.specs.declared.figures.Judged.the-variants.{Accepted, Refused}
-use Rattle.account.specs.Adding.{isFull, notNext, entry, recordLines, addLines, answer}
-use Rattle.account.proofs.Opens.{site-examined}
-use Rattle.account.proofs.Account.answer.Statement.{statement}
-use Rattle.account.proofs.Account.answer.Tie as tie
+use Rattle.due.specs.Answer.{isFull, notNext, entry, recordLines, addLines, answer}
+use Rattle.due.proofs.Due.answer.Statement.{statement}
+use Rattle.due.proofs.Due.answer.Tie as tie
 
 -- one line before a table
 led : (bad : Bool) (why : Refusal) (t : List Line) → followedBy (also Fine bad why) (firstOf t) ≡ firstOf (when bad why ∷ t)
@@ -29,7 +28,7 @@ decided v =
     (led (isFull (a .self)) Full (minuteHeadLines (a .bytes .now)))
 
 judge-requires : tie.Need-judge-requires
-judge-requires c κs = site-examined (c .before .before .before .before .before .before .before .before .before .before .before .before .pre)
+judge-requires c κs = c .before .before .before .before .before .before .before .before .before .before .before .pre .0
 
 returns : tie.Need-returns
 unfolding answer addLines
@@ -43,7 +42,7 @@ returns c m pos =
 returns-2 : tie.Need-returns-2
 unfolding answer addLines judged
 returns-2 c m pos =
-    let i = c .before .before .before .before in
+    let i = c .before .before .before in
     let v = i .before .before .before .before in
     let a = v .before .before .before .before .before .args in
     let n = minuteOf (a .bytes .now) in
