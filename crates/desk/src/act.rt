@@ -45,7 +45,7 @@ fn of_records(call: usize, values: [usize; 15], bytes: &[u8], out: &mut [u8], at
         PART => runs::part(u32_of(values[0]), part(bytes, 0, values[1]), out, at),
         SINGLE => {
             let minute = part(bytes, SECOND_AT, values[1]);
-            buffers::single(values, record, minute, out, at)
+            desk_single::single(values, record, minute, out, at)
         }
         _ => at,
     }

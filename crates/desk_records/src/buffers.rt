@@ -1,4 +1,4 @@
-// The calls that write into a lent buffer: `write-site`, `write-minute` and `single`, the C call. The buffer holds a5 before.
+// The calls that write into a lent buffer: `write-site` and `write-minute`. The buffer holds a5 before.
 use answers::answer;
 use answers::put;
 use forms::take::u32_of;
@@ -12,7 +12,7 @@ use site::Temperatures;
 
 const BEFORE: u8 = 165;
 
-fn blank(room: &mut [u8]) {
+pub fn blank(room: &mut [u8]) {
     let mut i: usize = 0;
     while i < room.len() {
         room[i] = BEFORE;
@@ -24,7 +24,7 @@ fn u8_of(value: usize) -> u8 {
     (value % 256) as u8
 }
 
-fn u16_of(value: usize) -> u16 {
+pub fn u16_of(value: usize) -> u16 {
     (value % 65_536) as u16
 }
 
@@ -40,7 +40,7 @@ fn put_verdict(out: &mut [u8], at: usize, verdict: Verdict) -> usize {
 }
 
 // What a buffer holds afterwards.
-fn put_room(out: &mut [u8], at: usize, room: &[u8]) -> usize {
+pub fn put_room(out: &mut [u8], at: usize, room: &[u8]) -> usize {
     let at = put::text(out, at, b" ");
     let at = put::hex(out, at, room);
     put::end(out, at)
@@ -119,26 +119,4 @@ pub fn write_minute(values: [usize; 15], out: &mut [u8], at: usize) -> usize {
     let mut space = io::large_buffer();
     let room = u16_of(values[14]) as usize;
     minute_into(&mut space[0..room], values, out, at)
-}
-
-fn single_into(
-    room: &mut [u8],
-    site: &[u8],
-    minute: &[u8],
-    days: u16,
-    out: &mut [u8],
-    at: usize,
-) -> usize {
-    blank(room);
-    let given = host::flare_minute(site, minute, days, room);
-    let at = put::number(out, at, given as u64);
-    put_room(out, at, room)
-}
-
-// The number that the C call gives, and what it leaves in the answer buffer.
-pub fn single(values: [usize; 15], site: &[u8], minute: &[u8], out: &mut [u8], at: usize) -> usize {
-    let mut space = io::large_buffer();
-    let days = u16_of(values[2]);
-    let room = u16_of(values[3]) as usize;
-    single_into(&mut space[0..room], site, minute, days, out, at)
 }
