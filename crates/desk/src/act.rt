@@ -5,53 +5,25 @@ ghost use Rattle.account.specs.Kept.{Kept};
 ghost use Rattle.desk_account.specs.Desk.{Ready};
 use crate::checking;
 use account::Account;
-use answers::put;
 use desk_account::adding;
-use desk_account::adding::Grown;
 use desk_account::opening;
 use desk_account::turn::Desk;
 use desk_account::turn::Turn;
-use desk_records::buffers;
-use desk_records::fields;
-use desk_records::runs;
+use desk_account::turn::no_account;
+use desk_records::of_records;
 use forms::call::ADD;
 use forms::call::CHART;
 use forms::call::CHECK;
-use forms::call::CLASS;
 use forms::call::CLOSE;
 use forms::call::COUNTS;
 use forms::call::FILL;
-use forms::call::MINUTE;
 use forms::call::OPEN;
-use forms::call::PART;
 use forms::call::SINGLE;
-use forms::call::SITE;
 use forms::call::TOTAL;
-use forms::call::WRITE_MINUTE;
-use forms::call::WRITE_SITE;
-use forms::take::SECOND_AT;
 use forms::take::part;
 use forms::take::u32_of;
 
-// The calls that need no account.
-fn of_records(call: usize, values: [usize; 15], bytes: &[u8], out: &mut [u8], at: usize) -> usize {
-    let record = part(bytes, 0, values[0]);
-    match call {
-        SITE => fields::site(record, out, at),
-        MINUTE => fields::minute(record, out, at),
-        CLASS => fields::class(record, out, at),
-        WRITE_SITE => buffers::write_site(values, out, at),
-        WRITE_MINUTE => buffers::write_minute(values, out, at),
-        PART => runs::part(u32_of(values[0]), part(bytes, 0, values[1]), out, at),
-        SINGLE => {
-            let minute = part(bytes, SECOND_AT, values[1]);
-            desk_single::single(values, record, minute, out, at)
-        }
-        _ => at,
-    }
-}
-
-// The calls that leave the account alone.
+// The calls that ask an account.
 fn of_account(call: usize, account: Account, run: &[u8], out: &mut [u8], at: usize) -> usize
     requires { ⌜ Kept account ⌝ }
 {
@@ -65,57 +37,6 @@ fn of_account(call: usize, account: Account, run: &[u8], out: &mut [u8], at: usi
     }
 }
 
-// The calls that add to the account.
-fn of_minutes(
-    call: usize,
-    account: Account,
-    values: [usize; 15],
-    bytes: &mut [u8],
-    out: &mut [u8],
-    at: usize,
-) -> Grown
-    requires { ⌜ Kept account ⌝ }
-    ensures { λ r. ⌜ Kept (r .account) ⌝ }
-{
-    if call == FILL {
-        return adding::fill(account, u32_of(values[0]), bytes, values[1], out, at);
-    }
-    adding::add(account, part(bytes, 0, values[0]), out, at)
-}
-
-fn no_account(out: &mut [u8], at: usize) -> usize {
-    put::text(out, at, b"no account\n")
-}
-
-fn add_to(
-    desk: Desk,
-    call: usize,
-    values: [usize; 15],
-    bytes: &mut [u8],
-    out: &mut [u8],
-    at: usize,
-) -> Turn
-    requires { ⌜ Ready desk ⌝ }
-    ensures { λ r. ⌜ Ready (r .desk) ⌝ }
-{
-    if desk.open {
-        let grown = of_minutes(call, desk.account, values, bytes, out, at);
-        let account = grown.account;
-        Turn {
-            desk: Desk {
-                open: true,
-                account,
-            },
-            at: grown.at,
-        }
-    } else {
-        Turn {
-            desk,
-            at: no_account(out, at),
-        }
-    }
-}
-
 fn ask_of(desk: Desk, call: usize, run: &[u8], out: &mut [u8], at: usize) -> usize
     requires { ⌜ Ready desk ⌝ }
 {
@@ -126,27 +47,27 @@ fn ask_of(desk: Desk, call: usize, run: &[u8], out: &mut [u8], at: usize) -> usi
     }
 }
 
-fn without_list(
+// The calls that leave the desk as it is.
+fn tell(
     desk: Desk,
     call: usize,
     values: [usize; 15],
-    bytes: &mut [u8],
+    bytes: &[u8],
     out: &mut [u8],
     at: usize,
-) -> Turn
+) -> usize
     requires { ⌜ Ready desk ⌝ }
-    ensures { λ r. ⌜ Ready (r .desk) ⌝ }
 {
     match call {
-        ADD | FILL => add_to(desk, call, values, bytes, out, at),
-        CHECK | TOTAL | COUNTS | CLOSE | CHART => Turn {
+        CHECK | TOTAL | COUNTS | CLOSE | CHART => ask_of(
             desk,
-            at: ask_of(desk, call, part(bytes, 0, values[0]), out, at),
-        },
-        _ => Turn {
-            desk,
-            at: of_records(call, values, bytes, out, at),
-        },
+            call,
+            part(bytes, 0, values[0]),
+            out,
+            at,
+        ),
+        SINGLE => desk_single::single(values, bytes, out, at),
+        _ => of_records(call, values, bytes, out, at),
     }
 }
 
@@ -165,8 +86,13 @@ pub(crate) fn act(
     requires { ⌜ end ≤ length (now line) ⌝ }
     ensures { λ r. ⌜ Ready (r .desk) ⌝ }
 {
-    if call == OPEN {
-        return opening::open(desk, part(bytes, 0, values[0]), line, end, out, at);
+    match call {
+        OPEN => opening::open(desk, part(bytes, 0, values[0]), line, end, out, at),
+        ADD => adding::add(desk, part(bytes, 0, values[0]), out, at),
+        FILL => adding::fill(desk, u32_of(values[0]), bytes, values[1], out, at),
+        _ => Turn {
+            desk,
+            at: tell(desk, call, values, bytes, out, at),
+        },
     }
-    without_list(desk, call, values, bytes, out, at)
 }

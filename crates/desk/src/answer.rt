@@ -64,12 +64,25 @@ fn trimmed(line: &[u8]) -> &[u8] {
     line
 }
 
-// The answer to a line: a comment is echoed, an empty line is answered with one.
-pub(crate) fn answer(desk: Desk, line: &[u8], bytes: &mut [u8], out: &mut [u8], at: usize) -> Turn
+// The answer to a line of which so much was heard: a comment is echoed, an empty line is answered with one.
+pub(crate) fn answer(
+    desk: Desk,
+    line: &[u8],
+    heard: usize,
+    bytes: &mut [u8],
+    out: &mut [u8],
+    at: usize,
+) -> Turn
     requires { ⌜ Ready desk ⌝ }
     ensures { λ r. ⌜ Ready (r .desk) ⌝ }
 {
-    let line = trimmed(line);
+    if line.len() < heard {
+        return Turn {
+            desk,
+            at: expected::too_long(out, at),
+        };
+    }
+    let line = trimmed(&line[0..heard]);
     if (line.len() == 0) || (line[0] == COMMENT) {
         let at = put::text(out, at, line);
         Turn {

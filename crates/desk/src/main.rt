@@ -9,8 +9,12 @@ ghost use lib.ListN.{length};
 ghost use Rattle.desk_account.specs.Desk.{Ready};
 use account::Account;
 use desk_account::turn::Desk;
+use forms::take::part;
 use hearing::Heard;
-use hearing::listen;
+use hearing::end;
+use hearing::hear;
+use hearing::print;
+use hearing::read_more;
 
 // More chunks than any input has.
 const CHUNKS: u64 = 18_446_744_073_709_551_615;
@@ -41,19 +45,25 @@ fn nobody() -> Desk
     }
 }
 
-// Hears the input to its end. Answers whether all went well.
+// Hears the input to its end, and prints the answers before it waits for more. Answers whether all went well.
 fn talk(chunk: &mut [u8], line: &mut [u8], bytes: &mut [u8], out: &mut [u8]) -> bool {
     let mut heard = Heard {
         desk: nobody(),
         length: 0,
         at: 0,
-        ended: false,
-        well: true,
+        lost: false,
     };
     for _ in 0..CHUNKS {
-        heard = listen(heard, chunk, line, bytes, out);
-        if heard.ended {
-            return heard.well;
+        let more = read_more(chunk);
+        let count = more.count;
+        if count == 0 {
+            return end(more.well, heard.desk, heard.length, line, bytes, out);
+        }
+        let came = part(chunk, 0, count);
+        heard = hear(heard.desk, heard.length, came, line, bytes, out);
+        let printed = print(out, heard.at);
+        if !printed | heard.lost {
+            return false;
         }
     }
     false

@@ -1,17 +1,15 @@
 // The calls that add minutes to an account: `add` and `fill`.
 ghost use Rattle.account.specs.Kept.{Kept};
+ghost use Rattle.desk_account.specs.Desk.{Ready};
+use crate::turn::Desk;
+use crate::turn::Turn;
+use crate::turn::no_account;
 use account::Account;
 use account::Added;
 use answers::answer;
 use forms::take::part;
 use refusals::Verdict;
 use tool06::Judged;
-
-// The account after a call, and the place after its answer.
-pub struct Grown {
-    pub account: Account,
-    pub at: usize,
-}
 
 // Adds a record; every account that the calls give stays one.
 fn add_to(account: Account, record: &[u8]) -> Added
@@ -21,16 +19,27 @@ fn add_to(account: Account, record: &[u8]) -> Added
     account.add(record)
 }
 
-pub fn add(account: Account, record: &[u8], out: &mut [u8], at: usize) -> Grown
-    requires { ⌜ Kept account ⌝ }
-    ensures { λ r. ⌜ Kept (r .account) ⌝ }
+pub fn add(desk: Desk, record: &[u8], out: &mut [u8], at: usize) -> Turn
+    requires { ⌜ Ready desk ⌝ }
+    ensures { λ r. ⌜ Ready (r .desk) ⌝ }
 {
-    let added = add_to(account, record);
-    let answer = added.answer;
-    let grown = added.account;
-    Grown {
-        account: grown,
-        at: lines::put_minute(out, at, account.minutes(), answer),
+    if desk.open {
+        let expected = desk.account.minutes();
+        let added = add_to(desk.account, record);
+        let answer = added.answer;
+        let account = added.account;
+        Turn {
+            desk: Desk {
+                open: true,
+                account,
+            },
+            at: lines::put_minute(out, at, expected, answer),
+        }
+    } else {
+        Turn {
+            desk,
+            at: no_account(out, at),
+        }
     }
 }
 
@@ -82,21 +91,31 @@ fn put_filled(out: &mut [u8], at: usize, taken: u32, minute: u32, verdict: Verdi
 }
 
 pub fn fill(
-    account: Account,
+    desk: Desk,
     count: u32,
     bytes: &mut [u8],
     size: usize,
     out: &mut [u8],
     at: usize,
-) -> Grown
-    requires { ⌜ Kept account ⌝ }
-    ensures { λ r. ⌜ Kept (r .account) ⌝ }
+) -> Turn
+    requires { ⌜ Ready desk ⌝ }
+    ensures { λ r. ⌜ Ready (r .desk) ⌝ }
 {
-    let filled = fill_up(account, count, bytes, size);
-    let account = filled.account;
-    let verdict = filled.verdict;
-    Grown {
-        account,
-        at: put_filled(out, at, filled.taken, account.minutes(), verdict),
+    if desk.open {
+        let filled = fill_up(desk.account, count, bytes, size);
+        let account = filled.account;
+        let verdict = filled.verdict;
+        Turn {
+            desk: Desk {
+                open: true,
+                account,
+            },
+            at: put_filled(out, at, filled.taken, account.minutes(), verdict),
+        }
+    } else {
+        Turn {
+            desk,
+            at: no_account(out, at),
+        }
     }
 }

@@ -1,5 +1,6 @@
 // What a call finds at the desk, and what it leaves there.
 use account::Account;
+use answers::put;
 
 // One account is open, or none is, and then the account counts for nothing.
 pub struct Desk {
@@ -11,4 +12,9 @@ pub struct Desk {
 pub struct Turn {
     pub desk: Desk,
     pub at: usize,
+}
+
+// The answer where no account is open and a call takes one.
+pub fn no_account(out: &mut [u8], at: usize) -> usize {
+    put::text(out, at, b"no account\n")
 }

@@ -74,7 +74,7 @@ fn site_into(room: &mut [u8], values: [usize; 15], out: &mut [u8], at: usize) ->
     put_room(out, at, room)
 }
 
-pub fn write_site(values: [usize; 15], out: &mut [u8], at: usize) -> usize {
+pub(crate) fn write_site(values: [usize; 15], out: &mut [u8], at: usize) -> usize {
     let mut space = io::large_buffer();
     let room = u16_of(values[10]) as usize;
     site_into(&mut space[0..room], values, out, at)
@@ -115,7 +115,7 @@ fn minute_into(room: &mut [u8], values: [usize; 15], out: &mut [u8], at: usize) 
     put_room(out, at, room)
 }
 
-pub fn write_minute(values: [usize; 15], out: &mut [u8], at: usize) -> usize {
+pub(crate) fn write_minute(values: [usize; 15], out: &mut [u8], at: usize) -> usize {
     let mut space = io::large_buffer();
     let room = u16_of(values[14]) as usize;
     minute_into(&mut space[0..room], values, out, at)

@@ -30,7 +30,7 @@ fn put_site(out: &mut [u8], at: usize, site: Site) -> usize {
     )
 }
 
-pub fn site(record: &[u8], out: &mut [u8], at: usize) -> usize {
+pub(crate) fn site(record: &[u8], out: &mut [u8], at: usize) -> usize {
     match reading::read_site(record) {
         SiteRead::Fields(site) => put_site(out, at, site),
         SiteRead::Refused(refusal) => put::refused(out, at, refusal),
@@ -64,7 +64,7 @@ fn put_minute(out: &mut [u8], at: usize, minute: Minute) -> usize {
     )
 }
 
-pub fn minute(record: &[u8], out: &mut [u8], at: usize) -> usize {
+pub(crate) fn minute(record: &[u8], out: &mut [u8], at: usize) -> usize {
     match reading::read_minute(record) {
         MinuteRead::Fields(minute) => put_minute(out, at, minute),
         MinuteRead::Refused(refusal) => put::refused(out, at, refusal),
@@ -79,7 +79,7 @@ fn put_class(out: &mut [u8], at: usize, class: Class) -> usize {
     }
 }
 
-pub fn class(record: &[u8], out: &mut [u8], at: usize) -> usize {
+pub(crate) fn class(record: &[u8], out: &mut [u8], at: usize) -> usize {
     match reading::read_site(record) {
         SiteRead::Fields(site) => put_class(out, at, rules::class_of(site)),
         SiteRead::Refused(refusal) => put::refused(out, at, refusal),

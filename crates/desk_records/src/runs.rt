@@ -3,7 +3,7 @@ use answers::answer;
 use answers::put;
 use minute::Minute;
 
-pub fn part(day: u32, records: &[u8], out: &mut [u8], at: usize) -> usize {
+pub(crate) fn part(day: u32, records: &[u8], out: &mut [u8], at: usize) -> usize {
     let bytes = day::day_part(records, day).len() as u64;
     if bytes == 0 {
         put::text(out, at, b"part empty\n")

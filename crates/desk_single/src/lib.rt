@@ -3,6 +3,8 @@ use answers::put;
 use desk_records::buffers::blank;
 use desk_records::buffers::put_room;
 use desk_records::buffers::u16_of;
+use forms::take::SECOND_AT;
+use forms::take::part;
 
 fn single_into(
     room: &mut [u8],
@@ -19,8 +21,10 @@ fn single_into(
 }
 
 // The number that the C call gives, and what it leaves in the answer buffer.
-pub fn single(values: [usize; 15], site: &[u8], minute: &[u8], out: &mut [u8], at: usize) -> usize {
+pub fn single(values: [usize; 15], bytes: &[u8], out: &mut [u8], at: usize) -> usize {
     let mut space = io::large_buffer();
+    let site = part(bytes, 0, values[0]);
+    let minute = part(bytes, SECOND_AT, values[1]);
     let days = u16_of(values[2]);
     let room = u16_of(values[3]) as usize;
     single_into(&mut space[0..room], site, minute, days, out, at)

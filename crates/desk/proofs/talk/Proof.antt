@@ -21,37 +21,82 @@ abbrev μ-loop : tie.MeasureT-loop
 
 same-length : tie.Need-same-length Inv-loop μ-loop
 same-length c =
-    let e = c .before .before .before .before .before .before .before .before .before in
-    let l = e .before .before .before .before .before .before .loop in
-    omega (arith, e .listen .kept .1 .0, l .inv .0)
+    let e = c .before .before .before .before in
+    let r = e .before .before .before .before .before .before .before in
+    let l = r .before .before .before .loop in
+    omega (arith, r .read-more .kept .0, l .inv .0)
 
 same-length-2 : tie.Need-same-length-2 Inv-loop μ-loop
 same-length-2 c =
-    let e = c .before .before .before .before .before .before .before .before .before in
-    let l = e .before .before .before .before .before .before .loop in
-    omega (arith, e .listen .kept .1 .1 .0, l .inv .1)
+    let e = c .before .before .before .before in
+    let r = e .before .before .before .before .before .before .before in
+    let l = r .before .before .before .loop in
+    omega (arith, l .inv .1)
 
 same-length-3 : tie.Need-same-length-3 Inv-loop μ-loop
 same-length-3 c =
-    let e = c .before .before .before .before .before .before .before .before .before in
-    let l = e .before .before .before .before .before .before .loop in
-    omega (arith, e .listen .kept .1 .1 .1 .0, l .inv .2)
+    let e = c .before .before .before .before in
+    let r = e .before .before .before .before .before .before .before in
+    let l = r .before .before .before .loop in
+    omega (arith, e .end .kept .1 .1 .1 .1 .0, l .inv .2)
 
 same-length-4 : tie.Need-same-length-4 Inv-loop μ-loop
 same-length-4 c =
-    let e = c .before .before .before .before .before .before .before .before .before in
-    let l = e .before .before .before .before .before .before .loop in
-    omega (arith, e .listen .kept .1 .1 .1 .1 .0, l .inv .3)
+    let e = c .before .before .before .before in
+    let r = e .before .before .before .before .before .before .before in
+    let l = r .before .before .before .loop in
+    omega (arith, e .end .kept .1 .1 .1 .1 .1 .0, l .inv .3)
+
+same-length-5 : tie.Need-same-length-5 Inv-loop μ-loop
+same-length-5 c =
+    let h = c .before .before .before .before .before .before .before .before .before .before in
+    let r = h .before .before .before .before .before .before .before .before .before in
+    let l = r .before .before .before .loop in
+    omega (arith, r .read-more .kept .0, l .inv .0)
+
+same-length-6 : tie.Need-same-length-6 Inv-loop μ-loop
+same-length-6 c =
+    let h = c .before .before .before .before .before .before .before .before .before .before in
+    let r = h .before .before .before .before .before .before .before .before .before in
+    let l = r .before .before .before .loop in
+    omega (arith, h .hear .kept .1 .1 .1 .0, l .inv .1)
+
+same-length-7 : tie.Need-same-length-7 Inv-loop μ-loop
+same-length-7 c =
+    let h = c .before .before .before .before .before .before .before .before .before .before in
+    let r = h .before .before .before .before .before .before .before .before .before in
+    let l = r .before .before .before .loop in
+    omega (arith, h .hear .kept .1 .1 .1 .1 .0, l .inv .2)
+
+same-length-8 : tie.Need-same-length-8 Inv-loop μ-loop
+same-length-8 c =
+    let h = c .before .before .before .before .before .before .before .before .before .before in
+    let r = h .before .before .before .before .before .before .before .before .before in
+    let l = r .before .before .before .loop in
+    omega (arith, h .hear .kept .1 .1 .1 .1 .1 .0, l .inv .3)
+
+add-counter : tie.Need-add-counter Inv-loop μ-loop
+add-counter c =
+    let h = c .before .before .before .before .before .before .before .before .before .before in
+    let r = h .before .before .before .before .before .before .before .before .before in
+    search (needs, r .before .before .loop-test .taken)
+
+loop-less : tie.Need-loop-less Inv-loop μ-loop
+loop-less c =
+    let h = c .before .before .before .before .before .before .before .before .before .before in
+    let r = h .before .before .before .before .before .before .before .before .before in
+    omega (arith, r .before .before .loop-test .taken)
 
 loop-again : tie.Need-loop-again Inv-loop μ-loop
 loop-again c =
-    let e = c .before .before .before .before .before .before .before .before .before in
-    let l = e .before .before .before .before .before .before .loop in (
-      omega (arith, e .listen .kept .1 .0, l .inv .0),
-      omega (arith, e .listen .kept .1 .1 .0, l .inv .1),
-      omega (arith, e .listen .kept .1 .1 .1 .0, l .inv .2),
-      omega (arith, e .listen .kept .1 .1 .1 .1 .0, l .inv .3),
-      e .listen .ensures,
+    let h = c .before .before .before .before .before .before .before .before .before .before in
+    let r = h .before .before .before .before .before .before .before .before .before in
+    let l = r .before .before .before .loop in (
+      omega (arith, r .read-more .kept .0, l .inv .0),
+      omega (arith, h .hear .kept .1 .1 .1 .0, l .inv .1),
+      omega (arith, h .hear .kept .1 .1 .1 .1 .0, l .inv .2),
+      omega (arith, h .hear .kept .1 .1 .1 .1 .1 .0, l .inv .3),
+      h .hear .ensures,
       omega arith,
     )
 
@@ -64,13 +109,22 @@ talk-spec =
     (λ c κs. search needs)
     (λ c. search needs)
     (λ c κs. search needs)
+    (λ c κs. search needs)
     same-length
     same-length-2
     same-length-3
     same-length-4
     (λ c. search needs)
+    (λ c κs. search needs)
+    (λ c κs. search needs)
+    (λ c κs. search needs)
+    same-length-5
+    same-length-6
+    same-length-7
+    same-length-8
     (λ c. search needs)
-    (λ c. search needs)
+    add-counter
+    loop-less
     loop-again
     (λ c. search needs)
     (λ c. search needs)

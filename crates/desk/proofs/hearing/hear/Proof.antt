@@ -8,11 +8,11 @@ use Rattle.desk.proofs.hearing.hear.Statement.{statement}
 use Rattle.desk.proofs.hearing.hear.Tie as tie
 
 abbrev Inv-loop : tie.InvT-loop
-Inv-loop chunk line₀ bytes₀ out₀ current₀ from₀ line bytes out current from =
+Inv-loop heard chunk line₀ bytes₀ out₀ current₀ from₀ line bytes out current from =
     (length line ≡ length line₀) × (length bytes ≡ length bytes₀) × (length out ≡ length out₀) × Ready (current .desk) × (from ≤ length chunk)
 
 abbrev μ-loop : tie.MeasureT-loop
-μ-loop chunk line₀ bytes₀ out₀ current₀ from₀ line bytes out current from = length chunk - from
+μ-loop heard chunk line₀ bytes₀ out₀ current₀ from₀ line bytes out current from = length chunk - from
 
 same-length-4 : tie.Need-same-length-4 Inv-loop μ-loop
 same-length-4 c =
