@@ -28,7 +28,7 @@ returns c =
     let h3 = t .before .before .before in
     let l = h3 .before .before .before in
     let a = l .before .before .args in
-    rw (
+    simp (
       ← found-first (ruleLines (a .site) (a .minute) (a .in-time)) (lastRule (a .site) (a .minute)),
       c .or-measured .ensures,
       c .before .or-share9 .ensures,
