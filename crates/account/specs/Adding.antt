@@ -15,7 +15,7 @@ use Rattle.due.specs.declared.Due.{Due}
 use Rattle.account.specs.declared.Account.{Account}
 use Rattle.account.specs.declared.add.Added.{Added}
 
--- R55, R56: a record is answered at the account's site and with its list, as the minute that is expected next
+-- R51, R55, R56: a record is answered at the account's site and with its list, as the minute expected next, whose number is that of the minutes accepted so far
 abbrev pub due : Account → Due
 due a = record { site = a .site; maintenance = a .maintenance; minute = a .sums .minutes }
 

@@ -2,7 +2,7 @@
 use Prim.Native.Nat.{ℕ, _+_, _*_, _≤_, _<_}
 use mathlib.Core.Path.{_≡_}
 use mathlib.Core.Logic.{_↔_}
-use mathlib.Core.List.{List, [], _∷_}
+use mathlib.Core.List.{[], _∷_}
 use Rattle.exact.specs.Fractions.{Frac, _⊕_, _⊖_, _⊗_, _⊘_, whole, _≼_, _≺_, roundUp, roundDown}
 use Rattle.exact.specs.Layout.{Layout, bytes, laid, Maker, readBy}
 

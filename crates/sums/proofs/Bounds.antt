@@ -1,6 +1,6 @@
 -- Bounds add up.
 use mathlib.Core.Path.{_≡_, refl}
-use mathlib.Core.List.{List, [], _∷_}
+use mathlib.Core.List.{List, _∷_}
 use Prim.Native.Nat.{ℕ, zero, suc, _+_, _<_}
 use native.Mathlib.Omega.{arith}
 use Rattle.exact.specs.Fractions.{Frac, _⊕_, whole, _≼_, _≺_}
