@@ -1,11 +1,13 @@
 // Adding a minute.
 ghost use mathlib.Core.Path.{_≡_};
 ghost use Prim.Native.Nat.{_<_};
-ghost use Rattle.account.specs.Adding.{due, withGas, worth, withMinute, addTo};
+ghost use Rattle.account.specs.Adding.{due, withGas, worth, withMinute, afterAnswer, addTo};
 ghost use Rattle.account.specs.Kept.{Kept};
 ghost use Rattle.account.specs.scaffold.Small.{Small};
 ghost use Rattle.site.specs.Rules.{yearMinutes};
 ghost use Rattle.tool06.specs.Tool.{Masses, Positive};
+ghost use Rattle.tool06.specs.declared.figures.Figures.{Figures};
+ghost use Rattle.tool06.specs.declared.figures.Judged.the-variants.{Accepted};
 use crate::Account;
 use due::Due;
 use sums::Sums;
@@ -68,21 +70,27 @@ impl Account {
         self
     }
 
-    // Adds a minute from any bytes; a refusal leaves the account as it is.
+    // The account after an answer: a refusal leaves it as it is.
+    fn after(self, answer: Judged) -> Account
+        requires { ⌜ Kept self ⌝ }
+        requires { ⌜ ((f : Figures) → answer ≡ Accepted f → Small f × (self .sums .minutes < yearMinutes (self .site .year))) ⌝ }
+        ensures { λ r. ⌜ r ≡ afterAnswer self answer ⌝ }
+    {
+        match answer {
+            Judged::Accepted(figures) => self.with_minute(figures),
+            Judged::Refused(_) => self,
+        }
+    }
+
+    // Adds a minute from any bytes.
     pub fn add(self, bytes: &[u8]) -> Added
         requires { ⌜ Kept self ⌝ }
         ensures { λ r. ⌜ ((m : Masses) → Positive m → r ≡ addTo m self (now (bytes .entry))) ⌝ }
     {
         let answer = self.due().answer(bytes);
-        match answer {
-            Judged::Accepted(figures) => Added {
-                answer,
-                account: self.with_minute(figures),
-            },
-            Judged::Refused(_) => Added {
-                answer,
-                account: self,
-            },
+        Added {
+            answer,
+            account: self.after(answer),
         }
     }
 }

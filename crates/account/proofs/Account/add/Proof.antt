@@ -21,30 +21,14 @@ answered v m pos =
     let a = v .before .before .before .args in
     sym (v .answer .ensures m pos ∙ ap (λ (d : Due). answer m d (a .bytes .now)) (v .before .due .ensures))
 
-with-minute-requires : tie.Need-with-minute-requires
-with-minute-requires c κs =
-    let v = c .before .before .before in
-    let start = v .before .before .before in
-    let k = start .pre in
-    let e = accepted ones ones-positive (start .args .self) (site-examined k) _ _ (answered v ones ones-positive ∙ c .before .answer2 .given .1) in
-    (k, (e .0, e .1))
+after-requires : tie.Need-after-requires
+after-requires c κs =
+    let start = c .before .before .before in
+    (start .pre, λ f e. accepted ones ones-positive (start .args .self) (site-examined (start .pre)) _ f (answered c ones ones-positive ∙ e))
 
 returns : tie.Need-returns
 unfolding addTo
-returns c m pos = rw (answered (c .before .before .before .before) m pos ∙ c .before .before .answer2 .given .1, c .with-minute .ensures)
-
-returns-2 : tie.Need-returns-2
-unfolding addTo
-returns-2 c m pos = rw (answered (c .before .before) m pos, c .enum-told .given .1)
+returns c m pos = rw (answered (c .before) m pos, c .after .ensures)
 
 pub add-spec : {M : Type 1} → statement M
-add-spec =
-    tie.close
-    (tie.spec
-    (λ c κs. search needs)
-    answer-requires
-    (search needs)
-    with-minute-requires
-    (search needs)
-    returns
-    returns-2)
+add-spec = tie.close (tie.spec (λ c κs. search needs) answer-requires after-requires returns)
