@@ -11,7 +11,7 @@ const TOO_LONG: usize = 18_446_744_073_709_551_615;
 // Answers wait in their buffer until more do than this.
 const FULL: usize = 65_536;
 
-// The desk, how much of a line was heard that has no end yet, how much of the answers is not printed, and whether some were lost, which could not be.
+// The desk, how much of a line was heard that has no end yet, how much of the answers waits to be printed, and whether others could not be and are lost.
 pub(crate) struct Heard {
     pub desk: Desk,
     pub length: usize,
