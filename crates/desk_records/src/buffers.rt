@@ -1,6 +1,7 @@
 // The calls that write into a lent buffer: `write-site` and `write-minute`. The buffer holds a5 before.
 use answers::answer;
 use answers::put;
+use forms::take::u16_of;
 use forms::take::u32_of;
 use minute::Gas;
 use minute::Minute;
@@ -22,10 +23,6 @@ pub fn blank(room: &mut [u8]) {
 
 fn u8_of(value: usize) -> u8 {
     (value % 256) as u8
-}
-
-pub fn u16_of(value: usize) -> u16 {
-    (value % 65_536) as u16
 }
 
 fn i16_of(value: usize) -> i16 {

@@ -2,9 +2,9 @@
 use answers::put;
 use desk_records::buffers::blank;
 use desk_records::buffers::put_room;
-use desk_records::buffers::u16_of;
 use forms::take::SECOND_AT;
 use forms::take::part;
+use forms::take::u16_of;
 
 fn single_into(
     room: &mut [u8],

@@ -117,7 +117,11 @@ pub fn take(line: &[u8], end: usize, kinds: &[u8], bytes: &mut [u8]) -> Taken
     }
 }
 
-// A value that was taken as a number of four bytes.
+// A value that was taken as a number of two bytes, or of four.
+pub fn u16_of(value: usize) -> u16 {
+    (value % 65_536) as u16
+}
+
 pub fn u32_of(value: usize) -> u32 {
     (value % 4_294_967_296) as u32
 }
