@@ -2,8 +2,8 @@ use Prim.Native.Nat.{_-_, _≤_}
 use mathlib.Core.Path.{_≡_}
 use lib.ListN.{length}
 use borrow.Author.Needs.{needs}
-use Rattle.flare.proofs.streams.fill.Statement.{statement}
-use Rattle.flare.proofs.streams.fill.Tie as tie
+use Rattle.program.proofs.streams.fill.Statement.{statement}
+use Rattle.program.proofs.streams.fill.Tie as tie
 
 abbrev Inv-loop : tie.InvT-loop
 Inv-loop buffer₀ have₀ buffer have = (have ≤ length buffer₀) × (length buffer ≡ length buffer₀)
