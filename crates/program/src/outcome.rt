@@ -1,24 +1,20 @@
-// How the program ends: what it prints last, what it says of it, and what its launcher is told.
+// How a program ends: what it says of it, and what its launcher is told.
 ghost use mathlib.Core.Path.{_≡_};
 ghost use lib.ListN.{length};
 ghost use Rattle.exact.specs.Bytes.{put};
 ghost use Rattle.account.specs.Kept.{Kept};
 ghost use Rattle.lines.specs.Lines.{siteLine};
-ghost use Rattle.ending.specs.Ending.{ending};
-use crate::by_rule::print_rules;
+use crate::streams::print;
 use account::Account;
-use ending::put_ending;
 use ending::put_refused_site;
 use minute::Minute;
-use program::print;
 use refusals::Refusal;
 use refusals::Verdict;
-use report::Fed;
 use report::MINUTES;
 use tool06::Figures;
 
 // More: minutes may follow.
-pub(crate) enum Outcome {
+pub enum Outcome {
     More,
     Well,
     Refused,
@@ -26,37 +22,12 @@ pub(crate) enum Outcome {
 }
 
 // What the launcher is told.
-pub(crate) fn status(outcome: Outcome) -> u64 {
+pub fn status(outcome: Outcome) -> u64 {
     match outcome {
         Outcome::Well => 0,
         Outcome::Refused => 1,
         Outcome::Failed | Outcome::More => 2,
     }
-}
-
-// The total and the year, once every minute's line is printed.
-fn finish(account: Account, out: &mut [u8]) -> bool
-    requires { ⌜ Kept account ⌝ }
-    requires { ⌜ length (now out) ≡ 65536 ⌝ }
-    ensures { λ _. ⌜ now (out .exit) ≡ put (now (out .entry)) 0 (ending account) ⌝ }
-{
-    let used = put_ending(out, account);
-    print(out, used)
-}
-
-// The last lines, before which a summary has the minutes under each rule. Answers whether they could be printed.
-fn end(account: Account, summary: bool, out: &mut [u8]) -> bool
-    requires { ⌜ Kept account ⌝ }
-    requires { ⌜ length (now out) ≡ 65536 ⌝ }
-{
-    let counts = account.counts();
-    if summary {
-        if !print_rules(counts) {
-            notes::unwritten();
-            return false;
-        }
-    }
-    finish(account, out)
 }
 
 // Says why the record was refused that stands behind those that were taken from this buffer; all before it were full.
@@ -81,20 +52,15 @@ fn warn(account: Account)
     }
 }
 
-// The last lines, and then what is to be said of them.
-pub(crate) fn conclude(fed: Fed, summary: bool, records: &[u8], out: &mut [u8]) -> Outcome
-    requires { ⌜ Kept (fed .account) ⌝ }
-    requires { ⌜ length (now out) ≡ 65536 ⌝ }
+// What is to be said of the last lines, once they are printed. The records are those of the last buffer.
+pub fn conclude(account: Account, verdict: Verdict, records: &[u8]) -> Outcome
+    requires { ⌜ Kept account ⌝ }
 {
-    if !end(fed.account, summary, out) {
-        return Outcome::Failed;
-    }
-    warn(fed.account);
-    let verdict = fed.verdict;
+    warn(account);
     match verdict {
         Verdict::Fine => Outcome::Well,
         Verdict::Refuse(refusal) => {
-            explain(refusal, fed.account, records);
+            explain(refusal, account, records);
             Outcome::Refused
         }
     }
@@ -110,7 +76,7 @@ fn print_refused(refusal: Refusal, out: &mut [u8]) -> bool
 }
 
 // A site that is refused, and why.
-pub(crate) fn refuse(refusal: Refusal, bytes: &[u8], out: &mut [u8]) -> Outcome
+pub fn refuse(refusal: Refusal, bytes: &[u8], out: &mut [u8]) -> Outcome
     requires { ⌜ length (now out) ≡ 65536 ⌝ }
 {
     if print_refused(refusal, out) {

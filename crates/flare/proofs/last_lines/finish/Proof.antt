@@ -3,8 +3,8 @@ use borrow.Author.Needs.{needs}
 use lib.ListN.{length-append}
 use Rattle.sheet.specs.Sheet.{totalLine, yearLine}
 use Rattle.sheet.proofs.Uncut.{sheet-uncut}
-use Rattle.flare.proofs.outcome.finish.Statement.{statement}
-use Rattle.flare.proofs.outcome.finish.Tie as tie
+use Rattle.flare.proofs.last_lines.finish.Statement.{statement}
+use Rattle.flare.proofs.last_lines.finish.Tie as tie
 
 print-requires : tie.Need-print-requires
 print-requires c κs =
