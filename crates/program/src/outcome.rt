@@ -75,9 +75,10 @@ fn print_refused(refusal: Refusal, out: &mut [u8]) -> bool
     print(out, used)
 }
 
-// A site that is refused, and why.
-pub fn refuse(refusal: Refusal, bytes: &[u8], out: &mut [u8]) -> Outcome
+// A site that is refused, and why. No minute follows.
+pub(crate) fn refuse(refusal: Refusal, bytes: &[u8], out: &mut [u8]) -> Outcome
     requires { ⌜ length (now out) ≡ 65536 ⌝ }
+    ensures { λ r. ⌜ (r ≡ Outcome.More → ⊥) ⌝ }
 {
     if print_refused(refusal, out) {
         notes::refused_site(refusal, bytes);

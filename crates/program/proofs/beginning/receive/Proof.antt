@@ -1,0 +1,27 @@
+use borrow.Author.Needs.{needs}
+use Rattle.program.proofs.beginning.receive.Statement.{statement}
+use Rattle.program.proofs.beginning.receive.Tie as tie
+
+returns : tie.Need-returns
+returns c = λ e. absurd (c .before .before .refuse .ensures e)
+
+returns-2 : tie.Need-returns-2
+returns-2 c = λ e. absurd (c .before .before .refuse2 .ensures e)
+
+pub receive-spec : {M : Type 1} → statement M
+receive-spec =
+    tie.close
+    (tie.spec
+    (search needs)
+    (search needs)
+    (search needs)
+    (search needs)
+    (search needs)
+    (search needs)
+    (search needs)
+    (search needs)
+    (search needs)
+    returns
+    (search needs)
+    returns-2
+    (λ c. search needs))
