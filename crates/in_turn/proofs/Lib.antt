@@ -1,1 +1,4 @@
+pub mod Records
+pub mod Sofar
 pub mod Turn
+pub mod Unique

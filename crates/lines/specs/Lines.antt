@@ -1,8 +1,10 @@
 -- R69, R70, R73: the lines of a minute and of a refused site.
 use Prim.Native.Nat.{ℕ}
-use mathlib.Core.List.{List, _++_}
+use mathlib.Core.List.{List, [], _++_}
 use Rattle.refusals.specs.Refusals.{numberOf}
 use Rattle.refusals.specs.declared.refusal.Refusal.{Refusal}
+use Rattle.refusals.specs.declared.verdict.Verdict.{Verdict}
+use Rattle.refusals.specs.declared.verdict.Verdict.the-variants.{Fine, Refuse}
 use Rattle.tool06.specs.declared.figures.Figures.{Figures}
 use Rattle.tool06.specs.declared.figures.Judged.{Judged}
 use Rattle.tool06.specs.declared.figures.Judged.the-variants.{Accepted, Refused}
@@ -34,6 +36,11 @@ refusedLine minute r =
 abbrev pub minuteLine : ℕ → Judged → List ℕ
 minuteLine minute (Accepted f) = acceptedLine minute f
 minuteLine minute (Refused r) = refusedLine minute r
+
+-- R70: the line of the refusal that ended the reading, with "E the expected minute"; none where none did
+abbrev pub lastLine : ℕ → Verdict → List ℕ
+lastLine expected Fine = []
+lastLine expected (Refuse r) = refusedLine expected r
 
 -- R73: "A refused site prints only `site refused R`"
 unfoldable pub siteLine : Refusal → List ℕ
