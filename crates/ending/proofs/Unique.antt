@@ -7,7 +7,7 @@ use Rattle.ending.proofs.put_ending.Reads as put-ending
 use Rattle.ending.proofs.put_refused_site.Reads as put-refused-site
 
 pub put-ending-one : (κs : _) (a : _) → OneOutcome (λ e. now (e .0)) (put-ending.Learnt κs a)
-put-ending-one κs a x y e f p q = (p .0 ∙ sym (q .0), p .1 ∙ sym (q .1))
+put-ending-one κs a x y e f p q = (p .0 .place ∙ sym (q .0 .place), p .0 .holds ∙ sym (q .0 .holds))
 
 pub put-refused-site-one : (κs : _) (a : _) → OneOutcome (λ e. now (e .0)) (put-refused-site.Learnt κs a)
 put-refused-site-one κs a x y e f p q = (p .0 ∙ sym (q .0), p .1 ∙ sym (q .1))

@@ -1,4 +1,4 @@
--- R71, R72: what the program `flare` ends with.
+-- R71, R72, R93: what the programs `flare` and `months` end with.
 use Prim.Native.Nat.{ℕ}
 use mathlib.Core.List.{List, _++_}
 use Rattle.account.specs.declared.Account.{Account}

@@ -15,7 +15,7 @@ fn finish(account: Account, out: &mut [u8]) -> bool
     requires { ⌜ length (now out) ≡ 65536 ⌝ }
     ensures { λ _. ⌜ now (out .exit) ≡ put (now (out .entry)) 0 (ending account) ⌝ }
 {
-    let used = put_ending(out, account);
+    let used = put_ending(out, 0, account);
     print(out, used)
 }
 

@@ -5,9 +5,12 @@ mod streams;
 
 pub use beginning::Begun;
 pub use beginning::begin;
+pub use outcome::Ended;
 pub use outcome::Outcome;
 pub use outcome::conclude;
-pub use outcome::status;
+pub use outcome::tell;
+pub use streams::BUFFERS;
 pub use streams::Filled;
 pub use streams::fill;
+pub use streams::is_last;
 pub use streams::print;

@@ -3,7 +3,9 @@ ghost use mathlib.Core.Path.{_≡_};
 ghost use Prim.Native.Nat.{_+_, _≤_};
 ghost use lib.ListN.{length};
 ghost use Rattle.account.specs.Kept.{Kept};
+ghost use Rattle.sums.specs.scaffold.Fits.{minutesMost};
 ghost use Rattle.text.specs.Places.{PutFrom};
+ghost use Rattle.text.specs.Text.{decimal};
 ghost use Rattle.room.specs.Places.{placed, placeAfter};
 ghost use Rattle.sheet.specs.Sheet.{sumsText, totalLine, standing, yearLine};
 use account::Account;
@@ -15,15 +17,26 @@ use sums::Sums;
 use text::put_decimal;
 use text::put_text;
 
-// Minutes accepted, of them those with gas, the sums of methane, and CO2 equivalent.
-fn put_sums(out: &mut [u8], at: usize, sums: Sums, co2e: u64) -> usize
-    requires { ⌜ at + 156 ≤ length (now out) ⌝ }
-    ensures { λ r. ⌜ PutFrom (now (out .entry)) at (sumsText sums co2e) (now (out .exit)) r ⌝ }
-    ensures within { λ r. ⌜ r ≤ at + 156 ⌝ }
+// A number of minutes, or of a month: six digits at most.
+pub fn put_count(out: &mut [u8], at: usize, n: u32) -> usize
+    requires { ⌜ at + 20 ≤ length (now out) ⌝ }
+    requires { ⌜ n ≤ minutesMost ⌝ }
+    ensures { λ r. ⌜ PutFrom (now (out .entry)) at (decimal n) (now (out .exit)) r ⌝ }
+    ensures within { λ r. ⌜ r ≤ at + 6 ⌝ }
 {
-    let at = put_decimal(out, at, sums.minutes as u64);
+    put_decimal(out, at, n as u64)
+}
+
+// Minutes accepted, of them those with gas, the sums of methane, and CO2 equivalent, of a year or a part of it.
+pub fn put_sums(out: &mut [u8], at: usize, sums: Sums, co2e: u64) -> usize
+    requires { ⌜ at + 128 ≤ length (now out) ⌝ }
+    requires { ⌜ (sums .minutes ≤ minutesMost) × (sums .gas ≤ minutesMost) ⌝ }
+    ensures { λ r. ⌜ PutFrom (now (out .entry)) at (sumsText sums co2e) (now (out .exit)) r ⌝ }
+    ensures within { λ r. ⌜ r ≤ at + 128 ⌝ }
+{
+    let at = put_count(out, at, sums.minutes);
     let at = put_text(out, at, b" gas ");
-    let at = put_decimal(out, at, sums.gas as u64);
+    let at = put_count(out, at, sums.gas);
     let at = put_methane(out, at, sums.fed, sums.emitted, sums.destroyed);
     let at = put_text(out, at, b" co2e ");
     put_decimal(out, at, co2e)

@@ -106,3 +106,23 @@ digits-within (suc k) n =
 pub decimal-within : (n : ℕ) → length (decimal n) ≤ 20
 unfolding decimal
 decimal-within n = digits-within 20 n
+
+digits-below : (f k n : ℕ) → 0 < k → n < 10 ^ k → length (digits f n) ≤ k
+unfolding digits
+digits-below zero k n some h = omega arith
+digits-below (suc f) zero n some h = absurd (omega arith)
+digits-below (suc f) (suc zero) n some h = by-digits (λ l. length l ≤ 1) f n (λ one. omega arith) (λ more. absurd (omega arith))
+digits-below (suc f) (suc (suc k)) n some h =
+    by-digits
+    (λ l. length l ≤ suc (suc k))
+    f
+    n
+    (λ one. omega arith)
+    (λ more.
+    let tens = pow-suc 10 (suc k) in
+    rw length-append (omega (arith, digits-below f (suc k) (n / 10) (omega arith) (omega arith))))
+
+-- a number below 10^k has at most k digits
+pub decimal-below : (k n : ℕ) → 0 < k → n < 10 ^ k → length (decimal n) ≤ k
+unfolding decimal
+decimal-below k n some h = digits-below 20 k n some h

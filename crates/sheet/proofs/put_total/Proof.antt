@@ -1,10 +1,23 @@
 use borrow.Author.Needs.{needs}
 use native.Mathlib.Omega.{arith}
+use Rattle.account.proofs.Within.{year-within}
 use Rattle.text.proofs.Putting.{onward}
 use Rattle.sheet.specs.Sheet.{totalLine}
 use Rattle.room.proofs.Placing.{there, nowhere}
 use Rattle.sheet.proofs.put_total.Statement.{statement}
 use Rattle.sheet.proofs.put_total.Tie as tie
+
+put-sums-requires : tie.Need-put-sums-requires
+put-sums-requires c κs =
+    let t = c .before .before .before in
+    let r = t .before .before .before in
+    let s = r .before .before .before in
+    let e = s .before .before .before in
+    let k = e .pre in
+    let room = r .before .room .ensures in
+    let few = r .if1 .taken in
+    let y = year-within (e .args .account .site .year) .1 in
+    (omega (arith, room, few, t .put-text .ensures .place), rw (s .before .sums .ensures) (omega (arith, k .minutes-within), omega (arith, k .minutes-within, k .gas-counted)))
 
 returns : tie.Need-returns
 unfolding totalLine
@@ -28,7 +41,7 @@ put-total-spec =
     (λ c κs. search needs)
     (search needs)
     (search needs)
-    (search needs)
+    put-sums-requires
     (search needs)
     (search needs)
     (search needs)
