@@ -2,7 +2,7 @@
 # The reference's own files stand apart, so that tests/broken can link wrong copies of them.
 
 shared_files=(random inputs edges near_whole year program texts)
-reference_files=(reference equations lines)
+reference_files=(reference reference_year equations lines)
 desk_files=(reference_records reference_runs reference_reply reference_words reference_desk)
 talk_files=(desk_text desk_forms desk_records desk_lists desk_calls desk_runs desk_spoilt desk_talk)
 
@@ -61,7 +61,7 @@ link_host() {
 
 link_examples() {
     objects_in "$out/x86" examples_of_01 random inputs
-    "${c_for_x86[@]}" "${objects[@]}" "$1"/x86/{reference,equations,lines}.o "$host_library" -o "$1/examples_of_01"
+    "${c_for_x86[@]}" "${objects[@]}" "$1"/x86/{reference,reference_year,equations,lines}.o "$host_library" -o "$1/examples_of_01"
 }
 
 # link_native OUT NAME OBJECTS...: the driver NAME, with these objects beside the shared ones.
@@ -69,7 +69,7 @@ link_native() {
     local to=$1 name=$2
     shift
     objects_in "$out/native" "$@" "${shared_files[@]}"
-    "${c_native[@]}" "${objects[@]}" "$to"/native/{reference,equations,lines}.o -o "$to/$name"
+    "${c_native[@]}" "${objects[@]}" "$to"/native/{reference,reference_year,equations,lines}.o -o "$to/$name"
 }
 
 link_program() { link_native "$1" program_inputs; }
@@ -95,7 +95,7 @@ link_desk_lockstep() { link_desk "$1" desk_lockstep; }
 build_reference_program() {
     local to=$1
     shift
-    "${c_for_x86[@]}" -O3 "$@" "$root"/tests/{reference_main,reference,equations,lines}.c -o "$to"
+    "${c_for_x86[@]}" -O3 "$@" "$root"/tests/{reference_main,reference,reference_year,equations,lines}.c -o "$to"
 }
 
 # build_reference_desk OUT WORDS...: the reference's desk as a program, for this machine.

@@ -34,6 +34,9 @@ static const struct {
     {"open " SITE_HEX, "opened"},
     {"add " MINUTE_HEX, "minute 0 rule 3 fed 429600 emitted 42960 destroyed 386640"},
     {"total", "total 1 gas 1 fed 429600 emitted 42960 destroyed 386640 co2e 1202880"},
+    {"month 1", "month 1 minutes 1 gas 1 fed 429600 emitted 42960 destroyed 386640 co2e 1202880"},
+    {"month 12", "month 12 minutes 0 gas 0 fed 0 emitted 0 destroyed 0 co2e 0"},
+    {"month 13", "refused 23"},
 };
 
 static void say_known(struct run *run)
@@ -123,6 +126,8 @@ static const struct {
     {"fill ", "0", "1 " MINUTE_HEX},
     {"write-site 0 2027 28 12000 1000 5000 11000 100 90000 ", "0", " 30"},
     {"single " SITE_HEX " ", "00", " 0 25"},
+    {"month ", "0", "1"},
+    {"month ", "1", ""},
 };
 enum { LONG_ONES = sizeof long_ones / sizeof long_ones[0], LAST_ONES = 3, VERY_LONG = 2500000 };
 

@@ -228,6 +228,43 @@ void fill_up_to(struct teller *teller, uint32_t minute)
     line_of_fill(teller, count, &record);
 }
 
+/* ---- Months. ---- */
+
+/* By the days of an ordinary year up to its end; a leap year has one more from February on. */
+uint32_t month_end(const struct teller *teller, uint32_t month)
+{
+    static const uint32_t days[MONTHS] = {31, 59, 90, 120, 151, 181, 212, 243, 273, 304, 334, 365};
+    return DAY_MINUTES * (days[month - 1] + (month >= 2 && teller_site(teller)->year % 4 == 0));
+}
+
+void month_line(struct teller *teller, uint32_t month)
+{
+    begin(teller, CALL_MONTH);
+    text_number(&teller->line, &teller->random, month);
+}
+
+/* The one that the account is in or beside it, any from 0 to 13, or a number whose last bits may be a month's. */
+static void some_month_line(struct teller *teller)
+{
+    static const uint32_t far[] = {14, 255, 256, 257, 268, 0x10000, 0x10001, 0x1000001, 0x80000001, 0xffffffff};
+    struct random *random = &teller->random;
+    uint32_t month = 1;
+    while (month <= MONTHS && next_minute(teller) >= month_end(teller, month))
+        month++;
+    switch (random_below(random, 8)) {
+    case 0:
+        month = PICK(random, far);
+        break;
+    case 1:
+    case 2:
+        month = random_below(random, MONTHS + 2);
+        break;
+    default:
+        month += random_below(random, 3) - 1;
+    }
+    month_line(teller, month);
+}
+
 /* ---- The single minute. ---- */
 
 static void single_line(struct teller *teller)
@@ -263,7 +300,7 @@ void call_line(struct teller *teller, enum call call)
     static void (*const makers[CALLS])(struct teller *) = {
         [CALL_MINUTE] = minute_line, [CALL_WRITE_SITE] = write_site_line, [CALL_WRITE_MINUTE] = write_minute_line,
         [CALL_OPEN] = open_line, [CALL_ADD] = add_line, [CALL_FILL] = fill_line, [CALL_CHECK] = check_line,
-        [CALL_PART] = part_line, [CALL_SINGLE] = single_line,
+        [CALL_PART] = part_line, [CALL_MONTH] = some_month_line, [CALL_SINGLE] = single_line,
     };
     if (makers[call] != NULL)
         makers[call](teller);

@@ -28,6 +28,10 @@ void fill_up_to(struct teller *teller, uint32_t minute);
 const struct site *teller_site(const struct teller *teller);
 uint32_t minutes_left(const struct teller *teller);
 
+/* A month's row asked for, whether there is such a month or not; and the first minute after one of the twelve. */
+void month_line(struct teller *teller, uint32_t month);
+uint32_t month_end(const struct teller *teller, uint32_t month);
+
 /* The place of the next minute, with a number that is wrong there. */
 struct place next_place(struct teller *teller);
 

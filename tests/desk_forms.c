@@ -21,6 +21,7 @@ const struct form forms[CALLS] = {
     [CALL_CHECK] = {"check", "check HEX", "HEX", "h", 1},
     [CALL_PART] = {"part", "part DAY HEX", "DAY HEX", "dh", 0},
     [CALL_TOTAL] = {"total", "total", "", "", 1},
+    [CALL_MONTH] = {"month", "month MONTH", "MONTH", "d", 1},
     [CALL_COUNTS] = {"counts", "counts", "", "", 1},
     [CALL_CLOSE] = {"close", "close", "", "", 1},
     [CALL_CHART] = {"chart", "chart", "", "", 1},
@@ -28,7 +29,7 @@ const struct form forms[CALLS] = {
 };
 
 const char no_call_message[] = "what? expected a call: site minute write-site write-minute class open add fill check part "
-                               "total counts close chart single";
+                               "total month counts close chart single";
 
 void too_long_message(char message[MESSAGE_ROOM])
 {

@@ -109,6 +109,12 @@ static void add_from(uint32_t first, uint32_t end)
 
 /* ---- Years. ---- */
 
+static void each_month(void)
+{
+    for (int month = 1; month <= MONTHS; month++)
+        printf("month %d\n", month);
+}
+
 /* The rest of a year of so many minutes: closed too early and in time, and added to when it is full. */
 static void rest_of_year(uint32_t minutes)
 {
@@ -116,7 +122,9 @@ static void rest_of_year(uint32_t minutes)
     add_from(0, minutes - 1);
     puts("# closing one minute before the end\nclose\n# the last minute");
     add(minutes - 1);
-    puts("total\ncounts\nchart\n# closing, and closing again\nclose\nclose\n# one minute more, and a record of zeros");
+    puts("total\ncounts\nchart\n# each month");
+    each_month();
+    puts("# closing, and closing again\nclose\nclose\n# one minute more, and a record of zeros");
     add(minutes);
     line("add ", zeros, sizeof zeros);
     puts("total\ncounts\nchart\nclose");

@@ -56,7 +56,7 @@ static void say_call(struct run *run, enum call call)
     if (what || reply_is(run, "no account") != none)
         reference_differs(run, none ? "no account" : "an answer");
     else
-        tally_call(&run->tally, call, &run->teller.line, &run->talk.reply);
+        tally_call(&run->tally, call, &run->teller.line, &run->talk.reply, &run->talk.desk);
 }
 
 /* A line that is none, with what is said of it. */
@@ -125,16 +125,16 @@ static void some_long_line(struct run *run)
 /* How often each call comes; a chapter about an account does not lose it. */
 static const uint8_t any_call[CALLS] = {
     [CALL_SITE] = 5, [CALL_MINUTE] = 6, [CALL_WRITE_SITE] = 6, [CALL_WRITE_MINUTE] = 8, [CALL_CLASS] = 5, [CALL_OPEN] = 6,
-    [CALL_ADD] = 18, [CALL_FILL] = 9, [CALL_CHECK] = 10, [CALL_PART] = 3, [CALL_TOTAL] = 1, [CALL_COUNTS] = 1,
-    [CALL_CLOSE] = 1, [CALL_CHART] = 1, [CALL_SINGLE] = 12,
+    [CALL_ADD] = 18, [CALL_FILL] = 9, [CALL_CHECK] = 10, [CALL_PART] = 3, [CALL_TOTAL] = 1, [CALL_MONTH] = 2,
+    [CALL_COUNTS] = 1, [CALL_CLOSE] = 1, [CALL_CHART] = 1, [CALL_SINGLE] = 12,
 };
 static const uint8_t account_call[CALLS] = {
-    [CALL_ADD] = 10, [CALL_FILL] = 5, [CALL_CHECK] = 6, [CALL_TOTAL] = 1, [CALL_COUNTS] = 1, [CALL_CLOSE] = 2,
-    [CALL_CHART] = 1,
+    [CALL_ADD] = 10, [CALL_FILL] = 5, [CALL_CHECK] = 6, [CALL_TOTAL] = 1, [CALL_MONTH] = 3, [CALL_COUNTS] = 1,
+    [CALL_CLOSE] = 2, [CALL_CHART] = 1,
 };
 static const uint8_t no_account_call[CALLS] = {
-    [CALL_SITE] = 1, [CALL_OPEN] = 2, [CALL_ADD] = 3, [CALL_FILL] = 3, [CALL_CHECK] = 3, [CALL_TOTAL] = 3, [CALL_COUNTS] = 3,
-    [CALL_CLOSE] = 3, [CALL_CHART] = 3, [CALL_SINGLE] = 1,
+    [CALL_SITE] = 1, [CALL_OPEN] = 2, [CALL_ADD] = 3, [CALL_FILL] = 3, [CALL_CHECK] = 3, [CALL_TOTAL] = 3, [CALL_MONTH] = 3,
+    [CALL_COUNTS] = 3, [CALL_CLOSE] = 3, [CALL_CHART] = 3, [CALL_SINGLE] = 1,
 };
 
 static enum call by_weight(struct random *random, const uint8_t *weights)
@@ -184,6 +184,36 @@ static void how_it_stands(struct run *run)
         some_call(run, call);
 }
 
+static void ask_month(struct run *run, uint32_t month)
+{
+    if (!goes_on(run))
+        return;
+    month_line(&run->teller, month);
+    say_call(run, CALL_MONTH);
+}
+
+/* The numbers beside the twelve too. */
+static void every_month(struct run *run)
+{
+    for (uint32_t month = 0; month <= MONTHS + 1; month++)
+        ask_month(run, month);
+}
+
+/* Up to the last minute of a month, that minute, and the first of the next, each by a record of its own. */
+static void over_month_ends(struct run *run)
+{
+    for (uint32_t month = 1; month < MONTHS; month++) {
+        uint32_t end = month_end(&run->teller, month);
+        if (random_one_in(&run->teller.random, 6))
+            continue; /* the next record goes over this one as over any other minute */
+        for (uint32_t minute = end - 1; minute <= end + 1; minute++) {
+            fill_to(run, minute);
+            ask_month(run, month);
+            ask_month(run, month + 1);
+        }
+    }
+}
+
 /* Almost to the end of the year, up to its last minute, over it, and what is answered when it is full. */
 static void end_of_year(struct run *run)
 {
@@ -191,15 +221,19 @@ static void end_of_year(struct run *run)
     struct random *random = &run->teller.random;
     uint32_t end = reference_year_minutes(teller_site(&run->teller)->year), before = PICK(random, some);
     some_lines(run, account_call, random_below(random, 6));
+    if (!random_one_in(random, 4))
+        over_month_ends(run);
     fill_to(run, end - before);
     for (uint32_t adds = before / 2; adds > 0 && goes_on(run); adds--)
         some_call(run, CALL_ADD);
     if (minutes_left(&run->teller) > 1)
         fill_to(run, end - 1);
     how_it_stands(run);
+    every_month(run);
     some_lines(run, account_call, random_between(random, 10, 30));
     if (minutes_left(&run->teller) > 0)
         fill_to(run, end);
+    every_month(run);
     some_lines(run, account_call, random_between(random, 30, 50));
     run->years++;
 }
@@ -212,9 +246,17 @@ static void round_midnight(struct run *run)
     some_lines(run, account_call, random_between(random, 5, 25));
 }
 
+/* The years that are filled are ordinary ones and leap years in turn. */
+static int of_its_kind(const struct run *run)
+{
+    return (run->teller.spare.year % 4 == 0) == (run->years % 2 != 0);
+}
+
 static void one_chapter(struct run *run, int year)
 {
-    opening_line(&run->teller);
+    do
+        opening_line(&run->teller);
+    while (year && !of_its_kind(run));
     say_call(run, CALL_OPEN);
     if (year)
         end_of_year(run);

@@ -48,7 +48,17 @@ static int outcome_of(enum call call, const struct text *line, const struct repl
     return number < 0 ? ACCEPTED : begins(reply, "day ") ? SECOND + number : number;
 }
 
-void tally_call(struct tally *tally, enum call call, const struct text *line, const struct reply *reply)
+/* A month of zeros says little: the same is answered where nothing was ever added. */
+static void tally_month(struct tally *tally, const struct reply *reply, const struct desk *desk)
+{
+    static const char nothing[] = " emitted 0 ";
+    int month = number_after(reply, "month ");
+    if (memmem(reply->text, reply->length, nothing, strlen(nothing)) == NULL)
+        tally->months[desk->account.site.year % 4 == 0][(month - 1) % MONTHS]++;
+}
+
+void tally_call(struct tally *tally, enum call call, const struct text *line, const struct reply *reply,
+                const struct desk *desk)
 {
     int outcome = outcome_of(call, line, reply);
     tally->calls++;
@@ -59,6 +69,8 @@ void tally_call(struct tally *tally, enum call call, const struct text *line, co
         tally->rules[number_after(reply, " rule ") % RULES]++;
     if (call == CALL_CLASS)
         tally->classes[begins(reply, "open") ? OPEN_FLARE : begins(reply, "low") ? LOW_FLARE : TALL_FLARE]++;
+    if (call == CALL_MONTH)
+        tally_month(tally, reply, desk);
     tally->openings += call == CALL_OPEN;
 }
 
@@ -92,6 +104,8 @@ static uint64_t can_come(enum call call)
         return BIT(LENGTH) | in_turn << SECOND;
     case CALL_PART:
         return BIT(DAY);
+    case CALL_MONTH:
+        return BIT(MONTH);
     case CALL_CLOSE:
         return BIT(INCOMPLETE);
     case CALL_SINGLE:
@@ -148,6 +162,8 @@ void tally_print(const struct tally *tally)
         print_list(other_names[i], &tally->others[i], 1);
     print_list("added under each rule", tally->rules, RULES);
     print_list("classes open, low, tall", tally->classes, 3);
+    print_list("months with methane, ordinary years", tally->months[0], MONTHS);
+    print_list("months with methane, leap years", tally->months[1], MONTHS);
 }
 
 /* ---- What is missing. ---- */
@@ -187,5 +203,7 @@ int tally_is_enough(const struct tally *tally, uint64_t enough)
         good &= is_enough(tally->rules[i], enough, "add", "each of the rules");
     for (int i = 0; i < 3; i++)
         good &= is_enough(tally->classes[i], enough, "class", "each of the three");
+    for (int i = 0; i < 2 * MONTHS; i++) /* half as often in either kind of year */
+        good &= is_enough(tally->months[i / MONTHS][i % MONTHS], enough / 2, "month", "each of the twelve, with methane");
     return good;
 }

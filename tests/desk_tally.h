@@ -17,10 +17,12 @@ struct tally {
     uint64_t what[CALLS][MOST_WORDS]; /* NO_WORD stands at 0, so that word i stands at i + 1 */
     uint64_t others[OTHERS];
     uint64_t rules[RULES], classes[3], openings; /* of added minutes, of `class`; and accounts opened */
+    uint64_t months[2][MONTHS]; /* months answered that have minutes with methane, of an ordinary and of a leap year */
 };
 
-/* Counts a call that is one, by its line and the reference's answer. */
-void tally_call(struct tally *tally, enum call call, const struct text *line, const struct reply *reply);
+/* Counts a call that is one, by its line, the reference's answer and its desk after that. */
+void tally_call(struct tally *tally, enum call call, const struct text *line, const struct reply *reply,
+                const struct desk *desk);
 
 void tally_print(const struct tally *tally);
 

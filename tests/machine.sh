@@ -1,17 +1,19 @@
 # How the product's x86-64 program and library are run on this machine. Sourced, with $root set.
-# FLARE_PROGRAM, DESK_PROGRAM and HOST_LIBRARY may name other programs and another library than those of target/.
+# FLARE_PROGRAM, MONTHS_PROGRAM, DESK_PROGRAM and HOST_LIBRARY may name other programs and another library than those of target/.
 
 machine=$(uname -m)
 flare_program=${FLARE_PROGRAM:-$root/target/bin/flare}
+months_program=${MONTHS_PROGRAM:-$root/target/bin/months}
 desk_program=${DESK_PROGRAM:-$root/target/bin/desk}
 host_library=${HOST_LIBRARY:-$root/target/staticlib/libhost.a}
 
-# x86: what stands in front of any x86-64 program; flare, desk: the product's programs, which need their loader too on Arm;
+# x86: what stands in front of any x86-64 program; flare, months, desk: the product's programs, which need their loader too on Arm;
 # cross: the compiler for x86-64.
 case $machine in
 x86_64)
     x86=()
     flare=("$flare_program")
+    months=("$months_program")
     desk=("$desk_program")
     cross=gcc
     ;;
@@ -20,6 +22,7 @@ aarch64)
     x86=("$tools/bin/qemu-x86_64")
     loader=("${x86[@]}" "$tools/lib/ld-linux-x86-64.so.2" --library-path "$tools/lib")
     flare=("${loader[@]}" "$flare_program")
+    months=("${loader[@]}" "$months_program")
     desk=("${loader[@]}" "$desk_program")
     cross=x86_64-linux-gnu-gcc
     ;;
@@ -32,6 +35,7 @@ esac
 product_is_there() {
     local there=0
     [ -f "$flare_program" ] || { echo "tests: $flare_program is missing: make it with 'rt check flare'" >&2; there=1; }
+    [ -f "$months_program" ] || { echo "tests: $months_program is missing: make it with 'rt check months'" >&2; there=1; }
     [ -f "$desk_program" ] || { echo "tests: $desk_program is missing: make it with 'rt check desk'" >&2; there=1; }
     [ -f "$host_library" ] || { echo "tests: $host_library is missing: make it with 'rt staticlib host'" >&2; there=1; }
     [ -f "$root/include/flare.h" ] || { echo "tests: $root/include/flare.h is missing" >&2; there=1; }

@@ -1,4 +1,5 @@
-/* Many small inputs through the program, in pieces. Usage: program_inputs inputs seed keep-folder -- command... */
+/* Many small inputs through the program, in pieces.
+ * Usage: program_inputs flare|months inputs seed keep-folder -- command... */
 #include "texts.h"
 
 #include <stdio.h>
@@ -127,18 +128,18 @@ static void count(struct tally *tally, const struct feed *feed, const struct out
         tally->records += outcome->counts[i];
 }
 
-static void one_input(struct random *random, char **command, const char *keep, struct tally *tally)
+static void one_input(struct random *random, enum program program, char **command, const char *keep, struct tally *tally)
 {
     static struct stream stream;
     char name[64];
     struct outcome outcome;
     struct answer answer;
+    size_t length;
 
     make_input(random, tally->inputs, &stream);
     struct random pieces = {random_bits(random)}; /* how far the program reads must not change the next input */
     struct feed feed = make_feed(&pieces, &stream);
-    char *expected = malloc(text_room(stream.length));
-    size_t length = text_of_input(stream.bytes, stream.length, expected, &outcome);
+    char *expected = reference_text(program, &feed, &length, &outcome);
     run_program(command, &feed, &answer);
     snprintf(name, sizeof name, "input-%llu", (unsigned long long)tally->inputs);
     tally->differences += !texts_agree(name, &feed, expected, length, &answer, keep);
@@ -169,22 +170,23 @@ static int all_met(const struct tally *tally)
 int main(int words_count, char **words)
 {
     char **command = command_after_dashes(words);
-    if (words_count < 6 || command != words + 5)
-        return fprintf(stderr, "usage: program_inputs inputs seed keep-folder -- command...\n"), 2;
-    uint64_t inputs = strtoull(words[1], NULL, 10);
-    struct random random = {strtoull(words[2], NULL, 10)};
+    if (words_count < 7 || command != words + 6)
+        return fprintf(stderr, "usage: program_inputs flare|months inputs seed keep-folder -- command...\n"), 2;
+    enum program program = program_named(words[1]);
+    uint64_t inputs = strtoull(words[2], NULL, 10);
+    struct random random = {strtoull(words[3], NULL, 10)};
     static struct tally tally;
 
     for (; tally.inputs < inputs && tally.differences < SHOWN; tally.inputs++)
-        one_input(&random, command, words[3], &tally);
+        one_input(&random, program, command, words[4], &tally);
     if (tally.differences > 0)
         return 1;
     int good = all_met(&tally);
-    printf("program inputs: %llu, %llu bytes in %llu pieces (%llu waited for), %llu minutes accepted, "
+    printf("%s: %llu, %llu bytes in %llu pieces (%llu waited for), %llu minutes accepted, "
            "%llu whole inputs, %llu cut records, %llu closed years, 0 differences\n",
-           (unsigned long long)tally.inputs, (unsigned long long)tally.bytes, (unsigned long long)tally.pieces,
-           (unsigned long long)tally.waits, (unsigned long long)tally.records,
-           (unsigned long long)tally.minutes[ACCEPTED], (unsigned long long)tally.cut,
+           program == FLARE_PROGRAM ? "program inputs" : "months inputs", (unsigned long long)tally.inputs,
+           (unsigned long long)tally.bytes, (unsigned long long)tally.pieces, (unsigned long long)tally.waits,
+           (unsigned long long)tally.records, (unsigned long long)tally.minutes[ACCEPTED], (unsigned long long)tally.cut,
            (unsigned long long)tally.closed);
     return good ? 0 : 1;
 }

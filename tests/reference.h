@@ -6,12 +6,12 @@
 #include <stdint.h>
 
 enum { SITE_BYTES = 30, MINUTE_BYTES = 54, ANSWER_BYTES = 25, RULES = 10 };
-enum { DAY_MINUTES = 1440, MOST_DAYS = 64 };
+enum { DAY_MINUTES = 1440, MOST_DAYS = 64, MONTHS = 12 };
 
-/* 01, "Numbers a caller gets back": the names and numbers of its table. */
+/* 01, "Numbers a caller gets back": the names and numbers of its table; the last is the sheet by month's. */
 enum refusal {
     ACCEPTED, LENGTH, VERSION, METHOD, YEAR, GWP, SIZE, SPEC, OPEN, SCHEDULE, LIST, FULL,
-    FLAGS, ORDER, FLOW, COMPOSITION, METHANE, TEMPERATURE, EXHAUST, OXYGEN, INCOMPLETE, DAY, BUFFER,
+    FLAGS, ORDER, FLOW, COMPOSITION, METHANE, TEMPERATURE, EXHAUST, OXYGEN, INCOMPLETE, DAY, BUFFER, MONTH,
     REFUSALS
 };
 
@@ -48,7 +48,14 @@ struct figures {
     uint64_t fed, emitted, destroyed;
 };
 
-/* The account of one year, with its maintenance list. */
+/* What the accepted minutes of one month add up to. */
+struct row {
+    uint32_t minutes, gas;
+    uint64_t fed, emitted, destroyed;
+};
+
+/* The account of one year, with its maintenance list and its twelve months. */
+enum { BEFORE_JANUARY = -1, JANUARY, FEBRUARY, DECEMBER = MONTHS - 1 };
 struct account {
     struct site site;
     int32_t list[MOST_DAYS];
@@ -56,6 +63,9 @@ struct account {
     uint32_t next, gas;
     uint64_t fed, emitted, destroyed;
     uint32_t counts[RULES];
+    struct row rows[MONTHS];
+    int month;          /* that of the last minute */
+    uint32_t month_end; /* the first minute after it */
 };
 
 /* 01's chart point, in tonnes. */
@@ -100,6 +110,8 @@ uint8_t reference_open(struct account *account, const uint8_t *bytes, size_t len
 uint8_t reference_add(struct account *account, const uint8_t *bytes, size_t length, struct figures *figures);
 uint8_t reference_close(const struct account *account, uint64_t *tonnes);
 uint64_t reference_co2e(const struct account *account);
+uint8_t reference_month(const struct account *account, uint32_t month, struct row *row);
+uint64_t reference_co2e_of_row(const struct account *account, const struct row *row);
 struct chart_point reference_chart(const struct account *account);
 
 /* Calls over a run of minute records. */

@@ -185,6 +185,17 @@ static void answer_total(struct desk *desk, const struct words *words, struct re
     reply_line(reply, line_of_total(reply_room(reply, LINE_ROOM), &desk->account));
 }
 
+static void answer_month(struct desk *desk, const struct words *words, struct reply *reply)
+{
+    struct row row;
+    uint32_t month = (uint32_t)words->numbers[0];
+    uint8_t refusal = reference_month(&desk->account, month, &row);
+    if (refusal != ACCEPTED)
+        say_refused(reply, refusal);
+    else
+        reply_line(reply, line_of_month(reply_room(reply, LINE_ROOM), &desk->account, month, &row));
+}
+
 static void answer_counts(struct desk *desk, const struct words *words, struct reply *reply)
 {
     (void)words;
@@ -276,6 +287,7 @@ static const struct call calls[] = {
     {"check HEX", "h", 1, answer_check},
     {"part DAY HEX", "dh", 0, answer_part},
     {"total", "", 1, answer_total},
+    {"month MONTH", "d", 1, answer_month},
     {"counts", "", 1, answer_counts},
     {"close", "", 1, answer_close},
     {"chart", "", 1, answer_chart},

@@ -1,6 +1,6 @@
 -- What the calls keep of every account.
-use Prim.Native.Nat.{ℕ, _+_, _≤_, _<_}
-use mathlib.Core.Path.{_≡_, refl, sym, ap, _∙_}
+use Prim.Native.Nat.{ℕ, _+_, _-_, _*_, _/_, _≤_, _<_}
+use mathlib.Core.Path.{_≡_, refl, sym, ap, subst, _∙_}
 use mathlib.Core.Bool.{Bool, true, false, not}
 use mathlib.Core.List.{List}
 use native.Mathlib.Omega.{arith}
@@ -12,15 +12,21 @@ use Rattle.refusals.specs.declared.verdict.Verdict.the-variants.{Fine}
 use Rattle.site.specs.Rules.{yearMinutes}
 use Rattle.site.specs.declared.Site.{Site}
 use Rattle.sums.specs.Sums.{noSums, _⊞_, oneIf}
+use Rattle.sums.specs.Within.{Within}
 use Rattle.sums.specs.scaffold.Fits.{Fits}
+use Rattle.sums.specs.declared.Sums.{Sums}
 use Rattle.sums.proofs.Laws.{none-within, plus-within}
+use Rattle.calendar.proofs.Months.{day-in-year, each-in-one}
+use Rattle.rows.specs.Rows.{rowOf}
+use Rattle.rows.specs.scaffold.Only.{only}
+use Rattle.rows.proofs.Laws.{length-with-in, together-with-in, together-none, twelve-rows, no-row, row-at-most, rows-within-with}
 use Rattle.counts.proofs.Laws.{one-more-at, sum-more}
 use Rattle.tool06.specs.Tool.{Masses, Positive}
 use Rattle.tool06.specs.declared.figures.Figures.{Figures}
 use Rattle.tool06.specs.declared.figures.Judged.{Judged}
 use Rattle.tool06.specs.declared.figures.Judged.the-variants.{Accepted, Refused}
 use Rattle.due.specs.Answer.{answer}
-use Rattle.account.specs.Adding.{due, worth, withMinute, afterAnswer, addTo}
+use Rattle.account.specs.Adding.{due, worth, monthDue, withMinute, afterAnswer, addTo}
 use Rattle.account.specs.Kept.{Kept}
 use Rattle.account.specs.scaffold.Small.{Small}
 use Rattle.account.specs.Opening.{openLines, fresh, opened}
@@ -29,7 +35,7 @@ use Rattle.account.specs.declared.Account.{Account}
 use Rattle.account.specs.declared.open.Opened.{Opened}
 use Rattle.account.proofs.Accepted.{accepted}
 use Rattle.account.proofs.Opens.{opens-kept, list-is-kept, as-given, site-examined}
-use Rattle.account.proofs.Within.{year-within, one-if-within}
+use Rattle.account.proofs.Within.{year-within, one-if-within, gwp-times}
 
 one-or-other : (b : Bool) → oneIf (not b) + oneIf b ≡ 1
 one-or-other true = refl
@@ -48,6 +54,25 @@ module _ (f : Figures) where
   unfolding worth
   gas-one = one-if-within (not (eqb (f .rule) 0))
 
+only-within : (here : Bool) {s : Sums} → Within s → Within (only here s)
+only-within true w = w
+only-within false w = none-within
+
+only-one : (here : Bool) (f : Figures) → (only here (worth f) .minutes ≤ 1) × (only here (worth f) .gas ≤ 1)
+unfolding noSums
+only-one true f = (omega (arith, minutes-one f), gas-one f)
+only-one false f = (omega arith, omega arith)
+
+-- a row is at most the sums
+pub row-least : {a : Account} → Kept a → (k : ℕ) → (rowOf (a .rows) k .minutes ≤ a .sums .minutes) × (rowOf (a .rows) k .gas ≤ a .sums .gas)
+row-least {a} kept k = rw (kept .rows-add-up) at (row-at-most (a .rows) k)
+
+pub row-co2e-within : {a : Account} → Kept a → (k : ℕ) → a .site .gwp * rowOf (a .rows) k .emitted ≤ 3773606400000000
+row-co2e-within {a} kept k = gwp-times kept (rowOf (a .rows) k .emitted) (omega (arith, kept .rows-within k .emitted-within, row-least kept k .1))
+
+pub month-due : (a : Account) → a .sums .minutes < yearMinutes (a .site .year) → (1 ≤ monthDue a) × (monthDue a ≤ 12)
+month-due a room = let m = each-in-one (a .site .year) (a .sums .minutes / 1440) (day-in-year (a .site .year) (a .sums .minutes) room) in (m .0, m .1)
+
 module _ {a : Account} {f : Figures} (kept : Kept a) (small : Small f) (room : a .sums .minutes < yearMinutes (a .site .year)) where
   -- one minute more fits into the sums
   pub sums-fit : Fits (a .sums ⊞ worth f)
@@ -60,10 +85,24 @@ module _ {a : Account} {f : Figures} (kept : Kept a) (small : Small f) (room : a
         within = plus-within (kept .sums-within) (small .worth-within);
       }
 
+  -- and into each row
+  pub row-fits : (here : Bool) (k : ℕ) → Fits (rowOf (a .rows) k ⊞ only here (worth f))
+  unfolding _⊞_
+  row-fits here k =
+      let y = year-within (a .site .year) .1 in
+      let most = row-least kept k in
+      let one = only-one here f in
+      record {
+        minutes-fit = omega (arith, most .0, one .0);
+        gas-fits = omega (arith, most .1, one .1, kept .gas-counted);
+        within = plus-within (kept .rows-within k) (only-within here (small .worth-within));
+      }
+
   pub kept-with : Kept (withMinute a f)
   unfolding withMinute _⊞_
   kept-with =
       let there : f .rule < length (a .counts) = omega (arith, kept .counts-all, small .rule-below) in
+      let row : monthDue a - 1 < length (a .rows) = omega (arith, kept .rows-all, month-due a room .1) in
       record {
         opens = kept .opens;
         minutes-within = omega (arith, minutes-one f);
@@ -72,6 +111,9 @@ module _ {a : Account} {f : Figures} (kept : Kept a) (small : Small f) (room : a
         counts-sum = omega (arith, minutes-one f, kept .counts-sum, sum-more (a .counts) (f .rule) there);
         gas-counted = omega (arith, minutes-one f, gas-is f, kept .gas-counted, one-more-at (a .counts) (f .rule) 0 there, one-or-other (eqb (f .rule) 0));
         sums-within = plus-within (kept .sums-within) (small .worth-within);
+        rows-all = length-with-in (a .rows) (monthDue a) (worth f) ∙ kept .rows-all;
+        rows-add-up = together-with-in (a .rows) (monthDue a) (worth f) row ∙ ap (λ (s : Sums). s ⊞ worth f) (kept .rows-add-up);
+        rows-within = rows-within-with (a .rows) (monthDue a) (worth f) (kept .rows-within) (small .worth-within);
       }
 
 -- adding keeps what it requires, whatever the bytes
@@ -102,6 +144,9 @@ fresh-kept s days fine = record {
   counts-sum = refl;
   gas-counted = refl;
   sums-within = none-within;
+  rows-all = twelve-rows;
+  rows-add-up = together-none;
+  rows-within = λ k. subst Within (sym (no-row k)) none-within;
 }
 
 pub only-opened : OnlyOpened

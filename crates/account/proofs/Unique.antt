@@ -12,6 +12,7 @@ use Rattle.account.proofs.Account.site.Reads as site
 use Rattle.account.proofs.Account.sums.Reads as sums
 use Rattle.account.proofs.Account.minutes.Reads as minutes
 use Rattle.account.proofs.Account.counts.Reads as counts
+use Rattle.account.proofs.Account.rows.Reads as rows
 
 pub open-one : (κs : _) (a : _) → OneResult (opening.Learnt κs a)
 open-one κs a x y e f p q = p ∙ sym q
@@ -40,3 +41,6 @@ minutes-one κs a x y e f p q = p ∙ sym q
 
 pub counts-one : (κs : _) (a : _) → OneResult (counts.Learnt κs a)
 counts-one κs a x y e f p q = p ∙ sym q
+
+pub rows-one : (κs : _) (a : _) → OneResult (rows.Learnt κs a)
+rows-one κs a x y e f p q = p ∙ sym q

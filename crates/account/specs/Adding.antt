@@ -1,10 +1,12 @@
--- R46, R55, R56: adding a minute: its answer, and what an accepted minute adds.
-use Prim.Native.Nat.{ℕ}
+-- R46, R55, R56, R91: adding a minute: its answer, and what an accepted minute adds.
+use Prim.Native.Nat.{ℕ, _/_}
 use mathlib.Core.Bool.{not}
 use mathlib.Core.List.{List}
 use lib.Dec.{eqb}
 use Rattle.sums.specs.Sums.{_⊞_, oneIf}
 use Rattle.sums.specs.declared.Sums.{Sums}
+use Rattle.calendar.specs.Calendar.{monthOf}
+use Rattle.rows.specs.Rows.{withIn}
 use Rattle.tool06.specs.Tool.{Masses}
 use Rattle.tool06.specs.declared.figures.Figures.{Figures}
 use Rattle.tool06.specs.declared.figures.Judged.{Judged}
@@ -27,13 +29,18 @@ withGas rule = oneIf (not (eqb rule 0))
 unfoldable pub worth : Figures → Sums
 worth f = record { minutes = 1; gas = withGas (f .rule); fed = f .fed; emitted = f .emitted; destroyed = f .destroyed }
 
--- R46: the sums with the minute's worth, and one more under its rule
+-- R91: the month of the day of the minute that is due, which is the accepted minute's own: the minutes before it are its number
+abbrev pub monthDue : Account → ℕ
+monthDue a = monthOf (a .site .year) (a .sums .minutes / 1440)
+
+-- R46, R91: the sums with the minute's worth, one more under its rule, and the worth once more in the row of its month
 unfoldable pub withMinute : Account → Figures → Account
 withMinute a f = record {
   site = a .site;
   maintenance = a .maintenance;
   sums = a .sums ⊞ worth f;
   counts = oneMore (a .counts) (f .rule);
+  rows = withIn (a .rows) (monthDue a) (worth f);
 }
 
 -- R56, R58: "A refusal returns its number and nothing else; the account .. stay[s]"

@@ -8,6 +8,7 @@ use Rattle.refusals.specs.declared.refusal.Refusal.the-variants.{List as LIST}
 use Rattle.site.specs.Rules.{yearMinutes, siteLines}
 use Rattle.site.specs.declared.Site.{Site}
 use Rattle.sums.specs.Sums.{noSums}
+use Rattle.rows.specs.Rows.{noRows}
 use Rattle.maintenance.specs.Days.{listWrong, maintenanceOf}
 use Rattle.tool06.specs.Rules.{ruleCount}
 use Rattle.account.specs.declared.Account.{Account}
@@ -21,13 +22,14 @@ lastDay year = pos (yearMinutes year / 1440 - 1)
 unfoldable pub openLines : Site → List ℤ → List Line
 openLines s days = siteLines s ++ (when (listWrong days (lastDay (s .year))) LIST ∷ [])
 
--- R1, R46: the account of one flare and one year, with no minute yet
+-- R1, R46, R91: the account of one flare and one year, with no minute yet
 unfoldable pub fresh : Site → List ℤ → Account
 fresh s days = record {
   site = s;
   maintenance = maintenanceOf days;
   sums = noSums;
   counts = replicate ruleCount 0;
+  rows = noRows;
 }
 
 -- R53, R54: beside a refusal stands an account that meets no call's requirement (OnlyOpened)

@@ -10,6 +10,7 @@ ghost use Rattle.tool06.specs.declared.figures.Figures.{Figures};
 ghost use Rattle.tool06.specs.declared.figures.Judged.the-variants.{Accepted};
 use crate::Account;
 use due::Due;
+use site::Site;
 use sums::Sums;
 use tool06::Figures;
 use tool06::Judged;
@@ -62,11 +63,17 @@ impl Account {
         requires { ⌜ self .sums .minutes < yearMinutes (self .site .year) ⌝ }
         ensures { λ r. ⌜ r ≡ withMinute self figures ⌝ }
     {
+        let site = self.site;
         let sums = self.sums;
         let counts = self.counts;
+        let rows = self.rows;
+        let one = worth(figures);
+        let month = calendar::month_of(sums.minutes / Site::DAY_MINUTES, site.year);
         let raised = counts::one_more(counts, figures.rule);
-        self.sums = sums.plus(worth(figures));
+        let sheet = rows::with_in(rows, month, one);
+        self.sums = sums.plus(one);
         self.counts = raised;
+        self.rows = sheet;
         self
     }
 

@@ -13,11 +13,12 @@ use site::Site;
 use sums::Sums;
 use tool06::Figures;
 
-// The sums over the minutes accepted so far, and the minutes under each rule.
+// The sums over the minutes accepted so far, the minutes under each rule, and the same sums by month.
 // No other crate can make one or change one but by the calls: the fields are read by methods.
 pub struct Account {
     site: Site,
     maintenance: Maintenance,
     sums: Sums,
     counts: [u32; Figures::RULES],
+    rows: [Sums; 12],
 }

@@ -27,11 +27,13 @@ impl Account {
     fn fresh(site: Site, list: &[i16]) -> Account
         ensures { λ r. ⌜ r ≡ fresh site (now (list .entry)) ⌝ }
     {
+        let rows = rows::none();
         Account {
             site,
             maintenance: Maintenance::of(list),
             sums: Sums::none(),
             counts: [0u32; Figures::RULES],
+            rows,
         }
     }
 

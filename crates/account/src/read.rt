@@ -36,4 +36,12 @@ impl Account {
     {
         self.counts
     }
+
+    // The sums of each month, from January on.
+    pub fn rows(self) -> [Sums; 12]
+        requires { ⌜ Kept self ⌝ }
+        ensures { λ r. ⌜ r ≡ self .rows ⌝ }
+    {
+        self.rows
+    }
 }

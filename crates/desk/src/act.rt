@@ -17,19 +17,28 @@ use forms::call::CHECK;
 use forms::call::CLOSE;
 use forms::call::COUNTS;
 use forms::call::FILL;
+use forms::call::MONTH;
 use forms::call::OPEN;
 use forms::call::SINGLE;
 use forms::call::TOTAL;
 use forms::take::part;
 use forms::take::u32_of;
 
-// The calls that ask an account.
-fn of_account(call: usize, account: Account, run: &[u8], out: &mut [u8], at: usize) -> usize
+// The calls that ask an account; the value is that of the call's word, if it has one.
+fn of_account(
+    call: usize,
+    account: Account,
+    value: usize,
+    bytes: &[u8],
+    out: &mut [u8],
+    at: usize,
+) -> usize
     requires { ⌜ Kept account ⌝ }
 {
     match call {
-        CHECK => checking::check(account, run, out, at),
+        CHECK => checking::check(account, part(bytes, 0, value), out, at),
         TOTAL => sheet::put_total(out, at, account),
+        MONTH => desk_year::month(account, u32_of(value), out, at),
         COUNTS => desk_year::counts(account, out, at),
         CLOSE => desk_year::close(account, out, at),
         CHART => desk_year::chart(account, out, at),
@@ -37,11 +46,11 @@ fn of_account(call: usize, account: Account, run: &[u8], out: &mut [u8], at: usi
     }
 }
 
-fn ask_of(desk: Desk, call: usize, run: &[u8], out: &mut [u8], at: usize) -> usize
+fn ask_of(desk: Desk, call: usize, value: usize, bytes: &[u8], out: &mut [u8], at: usize) -> usize
     requires { ⌜ Ready desk ⌝ }
 {
     if desk.open {
-        of_account(call, desk.account, run, out, at)
+        of_account(call, desk.account, value, bytes, out, at)
     } else {
         no_account(out, at)
     }
@@ -59,10 +68,11 @@ fn tell(
     requires { ⌜ Ready desk ⌝ }
 {
     match call {
-        CHECK | TOTAL | COUNTS | CLOSE | CHART => ask_of(
+        CHECK | TOTAL | MONTH | COUNTS | CLOSE | CHART => ask_of(
             desk,
             call,
-            part(bytes, 0, values[0]),
+            values[0],
+            bytes,
             out,
             at,
         ),

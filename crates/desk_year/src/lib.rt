@@ -1,9 +1,19 @@
-// The calls of the desk that tell what an account comes to: `counts`, `close` and `chart`.
+// The calls of the desk that tell what an account comes to: `month`, `counts`, `close` and `chart`.
 ghost use Rattle.account.specs.Kept.{Kept};
 use account::Account;
 use account::Closed;
 use answers::answer;
 use answers::put;
+use by_month::Asked;
+
+pub fn month(account: Account, month: u32, out: &mut [u8], at: usize) -> usize
+    requires { ⌜ Kept account ⌝ }
+{
+    match by_month::month(account, month) {
+        Asked::Row(_) => monthly::put_month(out, at, account, month),
+        Asked::Refused(refusal) => put::refused(out, at, refusal),
+    }
+}
 
 pub fn counts(account: Account, out: &mut [u8], at: usize) -> usize
     requires { ⌜ Kept account ⌝ }

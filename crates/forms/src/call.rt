@@ -8,7 +8,7 @@ use answers::LINE_END;
 use answers::end_of;
 
 // Of each call its name, a letter for the kind of each of its words, and what its form has after the name.
-pub(crate) fn rows() -> [u8; 380] {
+pub(crate) fn rows() -> [u8; 394] {
     *b"site x HEX
 minute x HEX
 write-site 12244ss4422 METHOD YEAR GWP HEIGHT DIAMETER LOWEST HIGHEST LOWEST HIGHEST DAYS ROOM
@@ -20,6 +20,7 @@ fill 4x COUNT HEX
 check x HEX
 part 4x DAY HEX
 total
+month 4 MONTH
 counts
 close
 chart
@@ -50,16 +51,18 @@ pub const PART: usize = 9;
 
 pub const TOTAL: usize = 10;
 
-pub const COUNTS: usize = 11;
+pub const MONTH: usize = 11;
 
-pub const CLOSE: usize = 12;
+pub const COUNTS: usize = 12;
 
-pub const CHART: usize = 13;
+pub const CLOSE: usize = 13;
 
-pub const SINGLE: usize = 14;
+pub const CHART: usize = 14;
+
+pub const SINGLE: usize = 15;
 
 // A name that no call has.
-pub const NONE: usize = 15;
+pub const NONE: usize = 16;
 
 // A call, and where its row stands.
 pub struct Call {

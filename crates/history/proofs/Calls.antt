@@ -17,7 +17,7 @@ use Rattle.account.specs.Opening.{fresh, opened}
 use Rattle.account.specs.declared.Account.{Account}
 use Rattle.due.proofs.Taken.{Taken, taken}
 use Rattle.account.proofs.Opens.{examined}
-use Rattle.history.specs.History.{Reached, at-first, then, add, check-run, close, chart, co2e, grown}
+use Rattle.history.specs.History.{Reached, at-first, then, add, check-run, close, chart, co2e, month, grown}
 
 -- no call changes the site
 after-site : (a : Account) (j : Judged) → afterAnswer a j .site ≡ a .site
@@ -34,6 +34,7 @@ module _ {m : Masses} {s : Site} {days : List ℤ} where
   reached-examined (then r close) = reached-examined r
   reached-examined (then r chart) = reached-examined r
   reached-examined (then r co2e) = reached-examined r
+  reached-examined (then r (month k)) = reached-examined r
 
 module _ (m : Masses) (s : Site) (days : List ℤ) (P : Account → List Entry → Type 0) where
   abbrev OneMore : Account → List Entry → List ℕ → Figures → Type 0
@@ -64,3 +65,4 @@ module _ (m : Masses) (s : Site) (days : List ℤ) (P : Account → List Entry �
   every first more (then r close) = every first more r
   every first more (then r chart) = every first more r
   every first more (then r co2e) = every first more r
+  every first more (then r (month k)) = every first more r

@@ -16,7 +16,7 @@ use Rattle.due.specs.Answer.{entry, addLines, answer}
 use Rattle.account.specs.Adding.{due, addTo}
 use Rattle.account.specs.declared.Account.{Account}
 use Rattle.due.proofs.Taken.{taken}
-use Rattle.history.specs.History.{at-first, then, add, check-run, close, chart, co2e}
+use Rattle.history.specs.History.{at-first, then, add, check-run, close, chart, co2e, month}
 use Rattle.history.specs.Promises.{Histories, ByAnyMasses, DemandThree, DemandThreeBySeven}
 use Rattle.history.proofs.Calls.{reached-examined}
 use Rattle.history.proofs.Holds.{holds}
@@ -49,6 +49,7 @@ by-any-masses m pos s days a es (then {a = b} {es = fs} r (check-run run)) m' po
 by-any-masses m pos s days a es (then {a = b} {es = fs} r close) m' pos' = then (by-any-masses m pos s days b fs r m' pos') close
 by-any-masses m pos s days a es (then {a = b} {es = fs} r chart) m' pos' = then (by-any-masses m pos s days b fs r m' pos') chart
 by-any-masses m pos s days a es (then {a = b} {es = fs} r co2e) m' pos' = then (by-any-masses m pos s days b fs r m' pos') co2e
+by-any-masses m pos s days a es (then {a = b} {es = fs} r (month k)) m' pos' = then (by-any-masses m pos s days b fs r m' pos') (month k)
 
 pub demand-three-by-seven : DemandThreeBySeven
 demand-three-by-seven m pos s days a es reached MM each =

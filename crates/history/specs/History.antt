@@ -14,10 +14,11 @@ use Rattle.account.specs.Adding.{due, addTo}
 use Rattle.account.specs.Opening.{opened}
 use Rattle.account.specs.declared.Account.{Account}
 
--- R59: the calls that take an account, with the bytes lent to them; reading one of its numbers gives no account and needs no place here
+-- R59: the calls that take an account, with the bytes lent to them or the month asked for; reading one of its numbers gives no account and needs no place here
 pub data Call : Type 0 where
   add check-run : List ℕ → Call
   close chart co2e : Call
+  month : ℕ → Call
 
 -- R48, R59: adding gives an account; the other calls give none, and the account is the one it was
 abbrev pub accountAfter : Masses → Account → Call → Account
@@ -26,6 +27,7 @@ accountAfter m a (check-run run) = a
 accountAfter m a close = a
 accountAfter m a chart = a
 accountAfter m a co2e = a
+accountAfter m a (month k) = a
 
 -- R59: one minute more, where it is accepted
 abbrev pub grown : List Entry → Entry → Judged → List Entry
@@ -39,6 +41,7 @@ minutesAfter m a es (check-run run) = es
 minutesAfter m a es close = es
 minutesAfter m a es chart = es
 minutesAfter m a es co2e = es
+minutesAfter m a es (month k) = es
 
 -- R59: the account after an opening with this site and this list that was not refused, and any calls; and the minutes accepted, in their order
 pub data Reached (m : Masses) (s : Site) (days : List ℤ) : Account → List Entry → Type 0 where

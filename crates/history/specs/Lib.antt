@@ -1,3 +1,4 @@
 pub mod History
+pub mod Months
 pub mod Promises
 pub mod Year

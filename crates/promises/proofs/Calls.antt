@@ -13,7 +13,7 @@ use Rattle.exact.specs.Rounding.{ceilDiv}
 use Rattle.refusals.specs.Refusals.{numberOf}
 use Rattle.refusals.specs.Tables.{Line, when, firstOf}
 use Rattle.refusals.specs.declared.refusal.Refusal.{Refusal}
-use Rattle.refusals.specs.declared.refusal.Refusal.the-variants.{Length, Version, Method, Year, Gwp, Size, Spec, Open, Schedule, List as LIST, Full, Flags, Order, Flow, Composition, Methane, Temperature, Exhaust, Oxygen, Incomplete, Day, Buffer}
+use Rattle.refusals.specs.declared.refusal.Refusal.the-variants.{Length, Version, Method, Year, Gwp, Size, Spec, Open, Schedule, List as LIST, Full, Flags, Order, Flow, Composition, Methane, Temperature, Exhaust, Oxygen, Incomplete, Day, Buffer, Month}
 use Rattle.refusals.specs.declared.verdict.Verdict.{Verdict}
 use Rattle.refusals.specs.declared.verdict.Verdict.the-variants.{Fine, Refuse}
 use Rattle.records.specs.House.{headLines, bufferLines, answered, written}
@@ -36,11 +36,13 @@ use Rattle.account.specs.Opening.{openLines, fresh, opened}
 use Rattle.in_turn.specs.Turn.{recordsOf, AddedAll, withAnswer, addAll}
 use Rattle.account.specs.declared.Account.{Account}
 use Rattle.account.specs.declared.close.Closed.the-variants.{Tonnes, Refused as NotClosed}
+use Rattle.by_month.specs.Month.{monthLines, monthRow, monthAsked}
+use Rattle.by_month.specs.declared.Asked.the-variants.{Row as RowAsked, Refused as NoRow}
 use Rattle.run.specs.Check.{firstRefused, wholeOr, checked}
 use Rattle.day.specs.Part.{dayPart}
 use Rattle.host.specs.Single.{singleLines, single, singleFigures, returned, answerBytes, answerAfter}
-use Rattle.promises.specs.Numbers.{Said, given, refused, saidOfSite, saidOfMinute, saidOfJudged, saidOfClosed, saidOfVerdict, saidOfChecked, saidOfClass, decides}
-use Rattle.promises.specs.Calls.{ReadingASite, ReadingAMinute, WritingASite, WritingAMinute, OpeningAnAccount, AddingAMinute, ClosingAYear, Charting, TakingADay, ASingleMinute, Classing, orLater, firstSaid, CheckingARun, NumbersOfCalls, RefusedChangesNothing}
+use Rattle.promises.specs.Numbers.{Said, given, refused, saidOfSite, saidOfMinute, saidOfJudged, saidOfClosed, saidOfAsked, saidOfVerdict, saidOfChecked, saidOfClass, decides}
+use Rattle.promises.specs.Calls.{ReadingASite, ReadingAMinute, WritingASite, WritingAMinute, OpeningAnAccount, AddingAMinute, ClosingAYear, Charting, AskingAMonth, TakingADay, ASingleMinute, Classing, orLater, firstSaid, CheckingARun, NumbersOfCalls, RefusedChangesNothing}
 
 -- an answer of any type whose cases are values and a refusal
 by-table :
@@ -91,6 +93,10 @@ closing-a-year : ClosingAYear
 unfolding closing
 closing-a-year a = record { in-order = refl; decided = by-table Tonnes NotClosed saidOfClosed (ceilDiv (co2e a) 1000000000) refl (λ r. refl) (when (not (isFull (due a))) Incomplete ∷ []) }
 
+asking-a-month : AskingAMonth
+unfolding monthAsked
+asking-a-month a k = record { in-order = refl; decided = by-table RowAsked NoRow saidOfAsked (monthRow a k) refl (λ r. refl) (monthLines k) }
+
 same-number : {A : Type 0} (v : A) (w : Verdict) → returned w ≡ saidOfVerdict v w .number
 unfolding returned
 same-number v Fine = refl
@@ -127,6 +133,7 @@ no-zero Oxygen = omega arith
 no-zero Incomplete = omega arith
 no-zero Day = omega arith
 no-zero Buffer = omega arith
+no-zero Month = omega arith
 
 stops : (k expected : ℕ) (later : Said (ℕ × ℕ)) → 0 < k → record { number = k; values = some (expected / 1440, expected % 1440) } ≡ orLater k expected later
 stops zero expected later h = absurd (omega arith)
@@ -186,6 +193,7 @@ numbers-of-calls = record {
   adding-a-minute = adding-a-minute;
   closing-a-year = closing-a-year;
   charting = charting;
+  asking-a-month = asking-a-month;
   checking-a-run = checking-a-run;
   taking-a-day = taking-a-day;
   a-single-minute = a-single-minute;

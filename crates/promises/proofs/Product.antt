@@ -6,16 +6,19 @@ use Rattle.writing.proofs.Unique.{write-site-one, write-minute-one}
 use Rattle.tool06.proofs.Kept.{fed-form, short-form, sign-of-F, K-is-positive, equation-seven}
 use Rattle.tool06.proofs.Sums.{rounded-once, no-slack, masses-cancel}
 use Rattle.rules.proofs.Unique.{class-of-one}
+use Rattle.calendar.proofs.Months.{month-is, each-in-one}
 use Rattle.account.proofs.Accepted.{nothing-else}
 use Rattle.account.proofs.Laws.{only-opened}
 use Rattle.account.proofs.Lossless.{lossless}
-use Rattle.account.proofs.Unique.{open-one, add-one, co2e-one, close-one, chart-one, site-one, sums-one, minutes-one, counts-one}
+use Rattle.account.proofs.Unique.{open-one, add-one, co2e-one, close-one, chart-one, site-one, sums-one, minutes-one, counts-one, rows-one}
+use Rattle.by_month.proofs.Unique.{month-one}
 use Rattle.day.proofs.Unique.{day-part-one}
 use Rattle.run.proofs.Unique.{check-run-one}
 use Rattle.host.proofs.Unique.{flare-minute-one}
 use Rattle.history.proofs.Holds.{every-kept}
 use Rattle.history.proofs.Opening.{opened-stays}
 use Rattle.history.proofs.Promises.{histories, by-any-masses, demand-three, demand-three-by-seven}
+use Rattle.history.proofs.Months.{rows-add-up, rows-are, demand-three-by-month, demand-three-by-month-and-seven}
 use Rattle.history.proofs.Year.{equation-15}
 use Rattle.worked.proofs.Holds.{table-holds}
 use Rattle.text.proofs.ReadsBack.{reads-back}
@@ -23,10 +26,12 @@ use Rattle.lines.proofs.NoneCut.{none-cut}
 use Rattle.sheet.proofs.Uncut.{sheet-uncut}
 use Rattle.summary.proofs.Uncut.{rule-uncut}
 use Rattle.report.proofs.Pieces.{in-pieces}
+use Rattle.monthly.proofs.Pieces.{sheet-in-pieces}
+use Rattle.monthly.proofs.Uncut.{month-uncut}
 use Rattle.promises.specs.Outcomes.{OneOutcomeOfCalls}
 use Rattle.promises.specs.Product.{Product}
 use Rattle.promises.proofs.Calls.{numbers-of-calls, refused-changes-nothing}
-use Rattle.promises.proofs.Program.{reports-are-given}
+use Rattle.promises.proofs.Program.{reports-are-given, sheets-are-given}
 
 one-outcome-of-calls : OneOutcomeOfCalls
 one-outcome-of-calls = record {
@@ -40,10 +45,12 @@ one-outcome-of-calls = record {
   co2-equivalent = co2e-one;
   closing-a-year = close-one;
   charting = chart-one;
+  asking-a-month = month-one;
   reading-site = site-one;
   reading-sums = sums-one;
   reading-minutes = minutes-one;
   reading-counts = counts-one;
+  reading-rows = rows-one;
   checking-a-run = check-run-one;
   part-of-a-day = day-part-one;
   a-single-minute = flare-minute-one;
@@ -61,9 +68,11 @@ product = record {
   rounded-once = rounded-once;
   examples = table-holds;
   chart-points = lossless;
-  printed = (none-cut, sheet-uncut, rule-uncut, reads-back, in-pieces);
-  program = reports-are-given;
+  printed = (none-cut, sheet-uncut, rule-uncut, month-uncut, reads-back, in-pieces, sheet-in-pieces);
+  program = (reports-are-given, sheets-are-given);
   demand-three = (demand-three, demand-three-by-seven, no-slack);
+  months = (month-is, each-in-one);
+  rows = (rows-add-up, rows-are, demand-three-by-month, demand-three-by-month-and-seven);
   equation-15 = equation-15;
   short-form = (fed-form, short-form, sign-of-F, K-is-positive);
   any-masses = (masses-cancel, by-any-masses, equation-seven);

@@ -28,10 +28,11 @@ use Rattle.account.specs.Closing.{co2e, closing, chart}
 use Rattle.account.specs.Opening.{openLines, fresh, opened}
 use Rattle.in_turn.specs.Turn.{recordsOf}
 use Rattle.account.specs.declared.Account.{Account}
+use Rattle.by_month.specs.Month.{monthLines, monthRow, monthAsked}
 use Rattle.run.specs.Check.{checked}
 use Rattle.day.specs.Part.{dayPart}
 use Rattle.host.specs.Single.{singleLines, single, singleFigures, returned, answerAfter}
-use Rattle.promises.specs.Numbers.{Said, given, saidOfSite, saidOfMinute, saidOfJudged, saidOfClosed, saidOfVerdict, saidOfChecked, saidOfClass, _to_, By}
+use Rattle.promises.specs.Numbers.{Said, given, saidOfSite, saidOfMinute, saidOfJudged, saidOfClosed, saidOfAsked, saidOfVerdict, saidOfChecked, saidOfClass, _to_, By}
 
 -- R52: "Site: 1 to 9."
 abbrev pub ReadingASite : Type 0
@@ -76,6 +77,10 @@ AddingAMinute =
 -- R48: "Closing gives tonnes CO2 equivalent, rounded up, once every minute is in", else 20
 abbrev pub ClosingAYear : Type 0
 ClosingAYear = (a : Account) → By (20 ∷ []) (when (not (isFull (due a))) Incomplete ∷ []) (saidOfClosed (closing a)) (ceilDiv (co2e a) 1000000000)
+
+-- R92: "23 MONTH, when the asked month is not 1 to 12", else its row and CO2 equivalent
+abbrev pub AskingAMonth : Type 0
+AskingAMonth = (a : Account) (k : ℕ) → By (23 ∷ []) (monthLines k) (saidOfAsked (monthAsked a k)) (monthRow a k)
 
 -- R64, R66: "Order: 22, 1 to 9, minute 1, 2, 12, 13 (minute beyond the year), 14 to 19. It returns 0 or the refusal's number"
 abbrev pub ASingleMinute : Type 0
@@ -131,6 +136,7 @@ pub record NumbersOfCalls : Type 0 where
   pub adding-a-minute : AddingAMinute
   pub closing-a-year : ClosingAYear
   pub charting : Charting
+  pub asking-a-month : AskingAMonth
   pub checking-a-run : CheckingARun
   pub taking-a-day : TakingADay
   pub a-single-minute : ASingleMinute

@@ -23,6 +23,9 @@ use Rattle.tool06.specs.declared.figures.Judged.{Judged}
 use Rattle.tool06.specs.declared.figures.Judged.the-variants.{Accepted, Refused}
 use Rattle.account.specs.declared.close.Closed.{Closed}
 use Rattle.account.specs.declared.close.Closed.the-variants.{Tonnes, Refused as NotClosed}
+use Rattle.by_month.specs.declared.Asked.{Asked}
+use Rattle.by_month.specs.declared.Asked.the-variants.{Row as RowAsked, Refused as NoRow}
+use Rattle.by_month.specs.declared.Row.{Row}
 use Rattle.run.specs.declared.Checked.{Checked}
 use Rattle.run.specs.declared.Checked.the-variants.{Fine as NoneRefused, Run, At}
 
@@ -58,6 +61,11 @@ saidOfJudged (Refused r) = refused r
 abbrev pub saidOfClosed : Closed → Said ℕ
 saidOfClosed (Tonnes t) = given t
 saidOfClosed (NotClosed r) = refused r
+
+-- R58, R92: asking for a month
+abbrev pub saidOfAsked : Asked → Said Row
+saidOfAsked (RowAsked row) = given row
+saidOfAsked (NoRow r) = refused r
 
 -- R58: a verdict, where this stands beside one that refuses nothing
 abbrev pub saidOfVerdict : {A : Type 0} → A → Verdict → Said A

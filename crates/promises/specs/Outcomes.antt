@@ -18,6 +18,8 @@ use Rattle.account.proofs.Account.site.Reads as site
 use Rattle.account.proofs.Account.sums.Reads as sums
 use Rattle.account.proofs.Account.minutes.Reads as minutes
 use Rattle.account.proofs.Account.counts.Reads as counts
+use Rattle.account.proofs.Account.rows.Reads as rows
+use Rattle.by_month.proofs.month.Reads as month
 use Rattle.run.proofs.check_run.Reads as check-run
 use Rattle.day.proofs.day_part.Reads as day-part
 use Rattle.host.proofs.flare_minute.Reads as flare-minute
@@ -34,11 +36,13 @@ pub record OneOutcomeOfCalls : Type 1 where
   pub co2-equivalent : (κs : _) (a : _) → OneResult (co2e.Learnt κs a)
   pub closing-a-year : (κs : _) (a : _) → OneResult (close.Learnt κs a)
   pub charting : (κs : _) (a : _) → OneResult (chart.Learnt κs a)
+  pub asking-a-month : (κs : _) (a : _) → OneResult (month.Learnt κs a)
   -- the readers of an account
   pub reading-site : (κs : _) (a : _) → OneResult (site.Learnt κs a)
   pub reading-sums : (κs : _) (a : _) → OneResult (sums.Learnt κs a)
   pub reading-minutes : (κs : _) (a : _) → OneResult (minutes.Learnt κs a)
   pub reading-counts : (κs : _) (a : _) → OneResult (counts.Learnt κs a)
+  pub reading-rows : (κs : _) (a : _) → OneResult (rows.Learnt κs a)
   pub checking-a-run : (κs : _) (a : _) → OneResult (check-run.Learnt κs a)
   -- R63: a part of the run: the same bytes at the same place, so the same pointer and length
   pub part-of-a-day : (κs : _) (a : _) (x y : _) (e f : _) → day-part.Learnt κs a x e → day-part.Learnt κs a y f → (now x ≡ now y) × (ptr x ≡ ptr y) × (slice-vals x ≡ slice-vals y)

@@ -5,8 +5,10 @@ use Rattle.site.specs.Promises.{siteKind}
 use Rattle.minute.specs.Promises.{minuteKind}
 use Rattle.tool06.specs.Promises.{FedForm, ShortForm, SignOfF, KPositive, EquationSeven}
 use Rattle.tool06.specs.Bounds.{RoundedOnce, NoSlack, MassesCancel}
+use Rattle.calendar.specs.Promises.{MonthIs, EachInOne}
 use Rattle.account.specs.Promises.{OnlyOpened, NothingElse, Lossless}
 use Rattle.history.specs.Promises.{EveryKept, Histories, OpenedStays, ByAnyMasses, DemandThree, DemandThreeBySeven}
+use Rattle.history.specs.Months.{RowsAddUp, RowsAre, DemandThreeByMonth, DemandThreeByMonthAndSeven}
 use Rattle.history.specs.Year.{Equation15}
 use Rattle.worked.specs.Table.{TableHolds}
 use Rattle.text.specs.Promises.{DecimalsReadBack}
@@ -14,11 +16,12 @@ use Rattle.lines.specs.Promises.{NoneCut}
 use Rattle.sheet.specs.Promises.{SheetUncut}
 use Rattle.summary.specs.Promises.{RuleUncut}
 use Rattle.report.specs.Promises.{InPieces}
+use Rattle.monthly.specs.Promises.{MonthUncut, SheetInPieces}
 use Rattle.promises.specs.Calls.{NumbersOfCalls, RefusedChangesNothing}
 use Rattle.promises.specs.Outcomes.{OneOutcomeOfCalls}
-use Rattle.promises.specs.Program.{ReportsAreGiven}
+use Rattle.promises.specs.Program.{ReportsAreGiven, SheetsAreGiven}
 
--- R83 to R89: every promise, of which this is the one page
+-- R83 to R94: every promise, of which this is the one page
 pub record Product : Type 1 where
   -- R83: demand 1. Each call answers a result, or the first of the numbered refusals in the order listed for it
   pub numbers : NumbersOfCalls
@@ -40,12 +43,16 @@ pub record Product : Type 1 where
   pub examples : TableHolds
   -- R49: a chart point's sums without loss
   pub chart-points : Lossless
-  -- R74 to R76: no printed line is cut, its numbers read back, and records may come in pieces
-  pub printed : NoneCut × SheetUncut × RuleUncut × DecimalsReadBack × InPieces
-  -- R59, R68: the account that the program ends with is one that the calls give, so that all here holds of it
-  pub program : ReportsAreGiven
+  -- R74 to R76, R93: no printed line is cut, its numbers read back, and records may come in pieces
+  pub printed : NoneCut × SheetUncut × RuleUncut × MonthUncut × DecimalsReadBack × InPieces × SheetInPieces
+  -- R59, R68, R93: the account that a program ends with is one that the calls give, so that all here holds of it
+  pub program : ReportsAreGiven × SheetsAreGiven
   -- R86: demand 3. The sums beside the tool's equations, with any positive molecular mass for each minute, and with that of each minute's own gas; nothing widens its bounds
   pub demand-three : DemandThree × DemandThreeBySeven × NoSlack
+  -- R90: the months are the calendar's, and each day has one
+  pub months : MonthIs × EachInOne
+  -- R94: the rows of the months add up to the sums, each is the sum over its month's minutes, and demand 3 holds of each
+  pub rows : RowsAddUp × RowsAre × DemandThreeByMonth × DemandThreeByMonthAndSeven
   -- R87: CO2 equivalent and the tonnes beside equation (15)
   pub equation-15 : Equation15
   -- R40 to R42: the short form is the tool's equations

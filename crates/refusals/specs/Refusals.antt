@@ -1,7 +1,7 @@
 -- R51: the refusals and their numbers.
 use Prim.Native.Nat.{ℕ}
 use Rattle.refusals.specs.declared.refusal.Refusal.{Refusal}
-use Rattle.refusals.specs.declared.refusal.Refusal.the-variants.{Length, Version, Method, Year, Gwp, Size, Spec, Open, Schedule, List, Full, Flags, Order, Flow, Composition, Methane, Temperature, Exhaust, Oxygen, Incomplete, Day, Buffer}
+use Rattle.refusals.specs.declared.refusal.Refusal.the-variants.{Length, Version, Method, Year, Gwp, Size, Spec, Open, Schedule, List, Full, Flags, Order, Flow, Composition, Methane, Temperature, Exhaust, Oxygen, Incomplete, Day, Buffer, Month}
 
 -- R51: the number of each name
 abbrev pub numberOf : Refusal → ℕ
@@ -27,3 +27,4 @@ numberOf Oxygen = 19
 numberOf Incomplete = 20
 numberOf Day = 21
 numberOf Buffer = 22
+numberOf Month = 23

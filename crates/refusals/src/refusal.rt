@@ -25,6 +25,7 @@ pub enum Refusal {
     Incomplete,
     Day,
     Buffer,
+    Month,
 }
 
 impl Refusal {
@@ -55,6 +56,7 @@ impl Refusal {
             Refusal::Incomplete => 20,
             Refusal::Day => 21,
             Refusal::Buffer => 22,
+            Refusal::Month => 23,
         }
     }
 }

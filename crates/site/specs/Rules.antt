@@ -54,9 +54,13 @@ abbrev leapOr : Bool → ℕ
 leapOr true = 527040
 leapOr false = 525600
 
+-- R13: "divisible by four"
+abbrev pub isLeap : ℕ → Bool
+isLeap year = eqb (year % 4) 0
+
 -- R13: "A year has 525,600 minutes, or 527,040 when divisible by four"
 abbrev pub yearMinutes : ℕ → ℕ
-yearMinutes year = leapOr (eqb (year % 4) 0)
+yearMinutes year = leapOr (isLeap year)
 
 -- R8, R51: 9, outside "1..3,660 measured, 0..3,660 default"
 abbrev pub scheduleWrong : Site → Bool

@@ -1,0 +1,34 @@
+-- R75, R76, R93: what the lines of `months` promise.
+use Prim.Native.Nat.{ℕ, _*_, _≤_}
+use mathlib.Core.Path.{_≡_}
+use mathlib.Core.List.{List, _++_}
+use lib.ListN.{length}
+use Rattle.refusals.specs.declared.verdict.Verdict.{Verdict}
+use Rattle.refusals.specs.declared.verdict.Verdict.the-variants.{Fine, Refuse}
+use Rattle.minute.specs.Record.{minuteForm}
+use Rattle.tool06.specs.Tool.{Masses}
+use Rattle.in_turn.specs.Turn.{recordsOf, AddedAll, addAll}
+use Rattle.account.specs.Kept.{Kept}
+use Rattle.account.specs.declared.Account.{Account}
+use Rattle.monthly.specs.Monthly.{monthLine, monthSheet}
+
+-- R75: no month's line is longer than 163 bytes
+abbrev pub MonthUncut : Type 0
+MonthUncut = (a : Account) → Kept a → (k : ℕ) → length (monthLine a k) ≤ 163
+
+-- R93: what is printed of records after the site, whose account was opened
+abbrev pub sheetOf : AddedAll → List ℕ
+sheetOf all = monthSheet (all .account) (all .verdict)
+
+-- R76: what records print where some came before them and none of those was refused
+abbrev pub sheetAfter : Masses → AddedAll → List ℕ → Verdict → List ℕ
+sheetAfter m before c Fine = sheetOf (addAll m (before .account) (recordsOf c))
+sheetAfter m before c (Refuse r) = sheetOf before
+
+-- R76: n whole records, and then what follows them, print what they print in one piece
+abbrev pub SheetInPieces : Type 0
+SheetInPieces =
+    (m : Masses) (a : Account) (n : ℕ) (b c : List ℕ)
+    → length b ≡ n * minuteForm .size
+    → let before = addAll m a (recordsOf b) in
+    sheetOf (addAll m a (recordsOf (b ++ c))) ≡ sheetAfter m before c (before .verdict)
