@@ -3,42 +3,18 @@ use Prim.Native.Nat.{ℕ, zero, suc, _+_, _-_, _≤_, _<_}
 use mathlib.Core.Path.{_≡_, refl, sym, ap, _∙_}
 use mathlib.Core.Bool.{Bool, true, false}
 use mathlib.Core.List.{List, [], _∷_}
-use native.Mathlib.Nat.{add-zero, zero-add}
 use native.Mathlib.Omega.{arith}
 use borrow.Author.Tests.{eqb-true, eqb-false}
 use lib.Dec.{eqb}
 use lib.ListN.{length, getD, set, replicate, length-set}
-use lib.Seq.{ext-getD, getD-set-same, getD-set-other}
+use lib.Seq.{getD-set-same, getD-set-other}
+use Rattle.exact.proofs.Anew.{from, anew}
 use Rattle.sums.specs.Sums.{noSums, _⊞_, total}
 use Rattle.sums.specs.Within.{Within}
 use Rattle.sums.specs.declared.Sums.{Sums}
 use Rattle.sums.proofs.Laws.{⊞-none, ⊞-assoc, ⊞-comm, none-⊞, none-within, plus-within}
 use Rattle.rows.specs.Rows.{noRows, rowOf, withIn, together}
 use Rattle.rows.specs.scaffold.Only.{only}
-
--- n values of a function, from place k on
-abbrev pub from : {A : Type 0} → (ℕ → A) → ℕ → ℕ → List A
-from f zero k = []
-from f (suc n) k = f k ∷ from f n (k + 1)
-
-length-from : {A : Type 0} (f : ℕ → A) (n k : ℕ) → length (from f n k) ≡ n
-length-from f zero k = refl
-length-from f (suc n) k = ap suc (length-from f n (k + 1))
-
-getD-from : {A : Type 0} (f : ℕ → A) (d : A) (n k i : ℕ) → i < n → getD (from f n k) i d ≡ f (k + i)
-getD-from f d zero k i h = absurd (omega arith)
-getD-from f d (suc n) k zero h = ap f (sym (add-zero k))
-getD-from f d (suc n) k (suc i) h =
-    let e : k + 1 + i ≡ k + suc i = omega arith in
-    getD-from f d n (k + 1) i (omega arith) ∙ ap f e
-
--- a list made anew, place by place
-anew : {A : Type 0} (f : ℕ → A) (d : A) (xs : List A) → ((i : ℕ) → i < length xs → f i ≡ getD xs i d) → from f (length xs) 0 ≡ xs
-anew f d xs same =
-    ext-getD d (from f (length xs) 0) xs (length-from f (length xs) 0)
-    (λ i h.
-    let within : i < length xs = omega (arith, length-from f (length xs) 0) in
-    getD-from f d (length xs) 0 i within ∙ ap f (zero-add i) ∙ same i within)
 
 module _ (rows : List Sums) (month : ℕ) (one : Sums) where
   pub length-with-in : length (withIn rows month one) ≡ length rows
@@ -60,13 +36,13 @@ module _ (rows : List Sums) (month : ℕ) (one : Sums) where
   abbrev pub rowAnew : ℕ → Sums
   rowAnew place = getD rows place noSums ⊞ only (eqb month (place + 1)) one
 
-  pub rows-anew : 1 ≤ month → from rowAnew (length rows) 0 ≡ withIn rows month one
-  rows-anew m = ap (λ (n : ℕ). from rowAnew n 0) (sym length-with-in) ∙ anew rowAnew noSums (withIn rows month one) same
+  pub rows-anew : (n : ℕ) → length rows ≡ n → 1 ≤ month → from rowAnew n 0 ≡ withIn rows month one
+  rows-anew n long m = anew rowAnew noSums n (withIn rows month one) (length-with-in ∙ long) same
     where
-      same : (i : ℕ) → i < length (withIn rows month one) → rowAnew i ≡ getD (withIn rows month one) i noSums
+      same : (i : ℕ) → i < n → rowAnew i ≡ getD (withIn rows month one) i noSums
       same i h =
           let place : i + 1 - 1 ≡ i = omega arith in
-          sym (rw place at (row-with-in (i + 1) m (omega arith) (omega (arith, length-with-in))))
+          sym (rw place at (row-with-in (i + 1) m (omega arith) (omega arith)))
 
 -- the rows together, once one is added at a place
 together-set : (rows : List Sums) (place : ℕ) (one : Sums) → place < length rows → together (set rows place (getD rows place noSums ⊞ one)) ≡ together rows ⊞ one

@@ -1,7 +1,6 @@
-use Prim.Native.Nat.{ℕ}
-use mathlib.Core.Path.{_≡_, ap, sym, _∙_}
 use borrow.Author.Needs.{needs}
-use Rattle.counts.proofs.Counting.{each, each-one-more}
+use Rattle.tool06.specs.Rules.{ruleCount}
+use Rattle.counts.proofs.Counting.{counts-anew}
 use Rattle.counts.proofs.one_more.Statement.{statement}
 use Rattle.counts.proofs.one_more.Tie as tie
 
@@ -22,7 +21,7 @@ returns c =
       c .before .before .before .before .before .before .before .before .counted2 .ensures,
       c .before .before .before .before .before .before .before .before .before .counted .ensures,
     )
-    (ap (λ (n : ℕ). each n 0 counts rule) (sym (e .pre .0)) ∙ each-one-more counts rule)
+    (counts-anew counts rule ruleCount (e .pre .0))
 
 pub one-more-spec : {M : Type 1} → statement M
 one-more-spec =

@@ -1,7 +1,5 @@
-use Prim.Native.Nat.{ℕ}
-use mathlib.Core.Path.{ap, sym, _∙_}
 use native.Mathlib.Omega.{arith}
-use Rattle.rows.proofs.Laws.{from, rowAnew, rows-anew}
+use Rattle.rows.proofs.Laws.{rows-anew}
 use Rattle.rows.proofs.with_in.Statement.{statement}
 use Rattle.rows.proofs.with_in.Tie as tie
 
@@ -23,7 +21,7 @@ returns c =
       c .before .before .before .before .before .before .before .before .before .before .row-with2 .ensures,
       c .before .before .before .before .before .before .before .before .before .before .before .row-with .ensures,
     )
-    (ap (λ (n : ℕ). from (rowAnew (a .rows) (a .month) (a .one)) n 0) (sym (e .pre .0 .0)) ∙ rows-anew (a .rows) (a .month) (a .one) (e .pre .0 .1))
+    (rows-anew (a .rows) (a .month) (a .one) 12 (e .pre .0 .0) (e .pre .0 .1))
 
 pub with-in-spec : {M : Type 1} → statement M
 with-in-spec =
