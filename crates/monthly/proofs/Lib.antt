@@ -1,3 +1,3 @@
 pub mod Pieces
-pub mod Uncut
 pub mod Unique
+pub mod Within

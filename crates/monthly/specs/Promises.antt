@@ -1,5 +1,5 @@
--- R75, R76, R93: what the lines of `months` promise.
-use Prim.Native.Nat.{ℕ, _*_, _≤_}
+-- R76, R93: the records may come in pieces: `months` prints what it would print of all of them in one input.
+use Prim.Native.Nat.{ℕ, _*_}
 use mathlib.Core.Path.{_≡_}
 use mathlib.Core.List.{List, _++_}
 use lib.ListN.{length}
@@ -8,13 +8,8 @@ use Rattle.refusals.specs.declared.verdict.Verdict.the-variants.{Fine, Refuse}
 use Rattle.minute.specs.Record.{minuteForm}
 use Rattle.tool06.specs.Tool.{Masses}
 use Rattle.in_turn.specs.Turn.{recordsOf, AddedAll, addAll}
-use Rattle.account.specs.Kept.{Kept}
 use Rattle.account.specs.declared.Account.{Account}
-use Rattle.monthly.specs.Monthly.{monthLine, monthSheet}
-
--- R75: no month's line is longer than 163 bytes
-abbrev pub MonthUncut : Type 0
-MonthUncut = (a : Account) → Kept a → (k : ℕ) → length (monthLine a k) ≤ 163
+use Rattle.monthly.specs.Monthly.{monthSheet}
 
 -- R93: what is printed of records after the site, whose account was opened
 abbrev pub sheetOf : AddedAll → List ℕ

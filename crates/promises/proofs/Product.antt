@@ -27,7 +27,7 @@ use Rattle.sheet.proofs.Uncut.{sheet-uncut}
 use Rattle.summary.proofs.Uncut.{rule-uncut}
 use Rattle.report.proofs.Pieces.{in-pieces}
 use Rattle.monthly.proofs.Pieces.{sheet-in-pieces}
-use Rattle.monthly.proofs.Uncut.{month-uncut}
+use Rattle.month_line.proofs.Uncut.{month-uncut}
 use Rattle.promises.specs.Outcomes.{OneOutcomeOfCalls}
 use Rattle.promises.specs.Product.{Product}
 use Rattle.promises.proofs.Calls.{numbers-of-calls, refused-changes-nothing}

@@ -16,7 +16,8 @@ use Rattle.lines.specs.Promises.{NoneCut}
 use Rattle.sheet.specs.Promises.{SheetUncut}
 use Rattle.summary.specs.Promises.{RuleUncut}
 use Rattle.report.specs.Promises.{InPieces}
-use Rattle.monthly.specs.Promises.{MonthUncut, SheetInPieces}
+use Rattle.month_line.specs.Promises.{MonthUncut}
+use Rattle.monthly.specs.Promises.{SheetInPieces}
 use Rattle.promises.specs.Calls.{NumbersOfCalls, RefusedChangesNothing}
 use Rattle.promises.specs.Outcomes.{OneOutcomeOfCalls}
 use Rattle.promises.specs.Program.{ReportsAreGiven, SheetsAreGiven}

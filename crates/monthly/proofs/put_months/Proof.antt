@@ -11,8 +11,9 @@ use Rattle.text.specs.Places.{PutFrom}
 use Rattle.text.proofs.Putting.{onward}
 use Rattle.room.specs.Places.{placed, placeAfter}
 use Rattle.room.proofs.Placing.{whole}
-use Rattle.monthly.specs.Monthly.{monthLine, firstMonths}
-use Rattle.monthly.proofs.Uncut.{months-within}
+use Rattle.month_line.specs.Line.{monthLine}
+use Rattle.monthly.specs.Monthly.{firstMonths}
+use Rattle.monthly.proofs.Within.{months-within}
 use Rattle.monthly.proofs.put_months.Statement.{statement}
 use Rattle.monthly.proofs.put_months.Tie as tie
 

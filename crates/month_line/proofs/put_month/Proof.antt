@@ -3,9 +3,9 @@ use borrow.Author.Needs.{needs}
 use native.Mathlib.Omega.{arith}
 use Rattle.by_month.proofs.Laws.{given-row}
 use Rattle.room.proofs.Placing.{there, nowhere, no-line}
-use Rattle.monthly.specs.Monthly.{monthLine}
-use Rattle.monthly.proofs.put_month.Statement.{statement}
-use Rattle.monthly.proofs.put_month.Tie as tie
+use Rattle.month_line.specs.Line.{monthLine}
+use Rattle.month_line.proofs.put_month.Statement.{statement}
+use Rattle.month_line.proofs.put_month.Tie as tie
 
 put-row-requires : tie.Need-put-row-requires
 put-row-requires c κs =

@@ -1,9 +1,9 @@
 use borrow.Author.Needs.{needs}
 use native.Mathlib.Omega.{arith}
 use Rattle.text.proofs.Putting.{onward}
-use Rattle.monthly.specs.Monthly.{rowLine}
-use Rattle.monthly.proofs.put_row.Statement.{statement}
-use Rattle.monthly.proofs.put_row.Tie as tie
+use Rattle.month_line.specs.Line.{rowLine}
+use Rattle.month_line.proofs.put_row.Statement.{statement}
+use Rattle.month_line.proofs.put_row.Tie as tie
 
 put-sums-requires : tie.Need-put-sums-requires
 put-sums-requires c κs =

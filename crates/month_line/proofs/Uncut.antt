@@ -1,5 +1,5 @@
--- No line of a month is cut, and twelve of them have so many bytes at most.
-use Prim.Native.Nat.{ℕ, zero, suc, _*_, _≤_}
+-- No line of a month is cut: it is its pieces, and each piece has so many bytes at most.
+use Prim.Native.Nat.{ℕ, _≤_}
 use mathlib.Core.Path.{_≡_, refl}
 use native.Mathlib.Omega.{arith}
 use lib.ListN.{length, length-append}
@@ -16,8 +16,8 @@ use Rattle.text.specs.Text.{decimal}
 use Rattle.text.proofs.Decimals.{decimal-within, decimal-below}
 use Rattle.lines.proofs.NoneCut.{methane-within}
 use Rattle.sheet.specs.Sheet.{sumsText}
-use Rattle.monthly.specs.Monthly.{rowLine, askedLine, monthLine, firstMonths}
-use Rattle.monthly.specs.Promises.{MonthUncut}
+use Rattle.month_line.specs.Line.{rowLine, askedLine, monthLine}
+use Rattle.month_line.specs.Promises.{MonthUncut}
 
 -- a number of minutes in a year, at most
 six : (n : ℕ) → n ≤ minutesMost → length (decimal n) ≤ 6
@@ -44,8 +44,3 @@ month-uncut a kept k = by-asked (monthAsked a k) refl
     by-asked : (asked : Asked) → monthAsked a k ≡ asked → length (askedLine k asked) ≤ 163
     by-asked (Given row) e = row-within a k row (given-row kept k row e)
     by-asked (Refused r) e = omega arith
-
-pub months-within : (a : Account) → Kept a → (n : ℕ) → length (firstMonths a n) ≤ n * 163
-unfolding firstMonths
-months-within a kept zero = omega arith
-months-within a kept (suc n) = rw length-append (omega (arith, months-within a kept n, month-uncut a kept (suc n)))

@@ -1,0 +1,2 @@
+pub mod Uncut
+pub mod Unique
