@@ -3,6 +3,7 @@
 
     python3 examples/desk.py                              the example day, with maintenance on 20 December
     python3 examples/desk.py FILE 2026-12-20 2027-03-22   a record file, and its days of maintenance, or none
+    python3 examples/desk.py --months FILE 2026-12-20     the same, with the sums of each month before the total
 
 A day is a date, or a number that counts from 0 for 1 January of the site's year: -12 is the 20 December before it.
 Prints the total, the year and the share destroyed. Exit status: 0, 1 after a refusal, 2 after a failure.
@@ -63,7 +64,7 @@ def day_of(word, year):
         raise Failed(f"'{word}' is not a day: give a date as 2026-12-20, or a day of the site's year as -12")
 
 
-def add_up(desk, records, words):
+def add_up(desk, records, words, by_month):
     """Opens the account of a record file, with maintenance on these days, and adds its minutes. Gives how it stands."""
     site = records.read(SITE_BYTES).hex()
     year = int(desk.ask("site", site).split()[4])  # site method 1 year 2027 ..
@@ -80,13 +81,14 @@ def add_up(desk, records, words):
     overdue = desk.ask("counts").split()[1 + OVERDUE]
     if not words and overdue != "0":
         print(f"desk.py: no maintenance days were given, and {overdue} minutes count as overdue: is that so?", file=sys.stderr)
-    return f"{total}\n{closed}\n{share}\nminutes overdue: {overdue}\n"
+    months = [desk.ask("month", month) for month in range(1, 13)] if by_month else []
+    return "".join(line + "\n" for line in [*months, total, closed, share, f"minutes overdue: {overdue}"])
 
 
-def main(name, *words):
+def main(name, *words, by_month):
     try:
         with open(name, "rb") as records, Desk() as desk:
-            text = add_up(desk, records, words)
+            text = add_up(desk, records, words, by_month)
         os.write(1, text.encode())  # standard output, at once: print would meet a full disk only when all is over
     except Refused as refusal:
         print(f"desk.py: {refusal}; ./flare --help explains the number", file=sys.stderr)
@@ -101,4 +103,5 @@ if __name__ == "__main__":
     if sys.argv[1:] in (["-h"], ["--help"]):
         print(__doc__, end="")
         sys.exit(0)
-    sys.exit(main(*(sys.argv[1:] or EXAMPLE)))
+    asked = [word for word in sys.argv[1:] if word != "--months"]
+    sys.exit(main(*(asked or EXAMPLE), by_month="--months" in sys.argv[1:]))

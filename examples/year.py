@@ -1,6 +1,7 @@
 #!/usr/bin/env python3
 # A made-up year of records, to be looked at by month: examples/year.py > year, then ./flare months year
 import datetime
+import os
 import struct
 import sys
 
@@ -64,15 +65,18 @@ def record(minute, trouble):
 
 
 def main():
-    if sys.stdout.isatty():
-        sys.exit("year.py: records are no text: examples/year.py > year")
+    if sys.stdout.isatty() or sys.argv[1:]:
+        sys.exit("usage: examples/year.py > year, which is 28 MB of records; it takes no other word")
     troubles = [None] * YEAR
     for begin, end, trouble in TROUBLE:
         for minute in range(minute_of(begin), minute_of(end)):
             troubles[minute] = trouble
-    sys.stdout.buffer.write(SITE)
-    for minute, trouble in enumerate(troubles):
-        sys.stdout.buffer.write(record(minute, trouble))
+    try:
+        os.write(1, SITE)
+        for day in range(0, YEAR, DAY):
+            os.write(1, b"".join(record(minute, troubles[minute]) for minute in range(day, day + DAY)))
+    except OSError as failure:
+        sys.exit(f"year.py: {failure.strerror}: the year is not whole")
 
 
 main()

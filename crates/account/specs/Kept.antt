@@ -6,7 +6,7 @@ use Rattle.refusals.specs.Tables.{firstOf}
 use Rattle.refusals.specs.declared.verdict.Verdict.the-variants.{Fine}
 use Rattle.site.specs.Rules.{yearMinutes}
 use Rattle.sums.specs.Within.{Within}
-use Rattle.rows.specs.Rows.{rowOf, together}
+use Rattle.rows.specs.Rows.{monthCount, rowOf, together}
 use Rattle.maintenance.specs.Days.{listedDays, KeptList}
 use Rattle.tool06.specs.Rules.{ruleCount}
 use Rattle.counts.specs.Counts.{sum}
@@ -24,7 +24,7 @@ pub record Kept (a : Account) : Type 0 where
   pub gas-counted : a .sums .gas + getD (a .counts) 0 0 ≡ a .sums .minutes
   -- 71.6 kg at most in a minute with gas
   pub sums-within : Within (a .sums)
-  pub rows-all : length (a .rows) ≡ 12
+  pub rows-all : length (a .rows) ≡ monthCount
   -- R94: the months' rows add up to the sums, and each has the same room
   pub rows-add-up : together (a .rows) ≡ a .sums
   pub rows-within : (k : ℕ) → Within (rowOf (a .rows) k)

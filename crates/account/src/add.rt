@@ -70,10 +70,10 @@ impl Account {
         let one = worth(figures);
         let month = calendar::month_of(sums.minutes / Site::DAY_MINUTES, site.year);
         let raised = counts::one_more(counts, figures.rule);
-        let sheet = rows::with_in(rows, month, one);
+        let months = rows::with_in(rows, month, one);
         self.sums = sums.plus(one);
         self.counts = raised;
-        self.rows = sheet;
+        self.rows = months;
         self
     }
 

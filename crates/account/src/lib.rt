@@ -9,6 +9,7 @@ pub use close::Closed;
 pub use close::Point;
 use maintenance::Maintenance;
 pub use open::Opened;
+use rows::MONTHS;
 use site::Site;
 use sums::Sums;
 use tool06::Figures;
@@ -20,5 +21,5 @@ pub struct Account {
     maintenance: Maintenance,
     sums: Sums,
     counts: [u32; Figures::RULES],
-    rows: [Sums; 12],
+    rows: [Sums; MONTHS],
 }

@@ -2,6 +2,7 @@
 ghost use mathlib.Core.Path.{_≡_};
 ghost use Rattle.account.specs.Kept.{Kept};
 use crate::Account;
+use rows::MONTHS;
 use site::Site;
 use sums::Sums;
 use tool06::Figures;
@@ -38,7 +39,7 @@ impl Account {
     }
 
     // The sums of each month, from January on.
-    pub fn rows(self) -> [Sums; 12]
+    pub fn rows(self) -> [Sums; MONTHS]
         requires { ⌜ Kept self ⌝ }
         ensures { λ r. ⌜ r ≡ self .rows ⌝ }
     {

@@ -13,7 +13,7 @@ use Rattle.account.specs.declared.Account.{Account}
 use Rattle.account.proofs.Laws.{row-least}
 use Rattle.account.proofs.Within.{year-within}
 use Rattle.by_month.specs.Month.{monthRow, monthAsked}
-use Rattle.by_month.specs.declared.Asked.the-variants.{Row as Given}
+use Rattle.by_month.specs.declared.Asked.the-variants.{Is}
 use Rattle.by_month.specs.declared.Row.{Row}
 
 -- a month that is not refused
@@ -27,7 +27,7 @@ pub record GivenRow (a : Account) (k : ℕ) (row : Row) : Type 0 where
   pub minutes-most : row .sums .minutes ≤ minutesMost
   pub gas-most : row .sums .gas ≤ minutesMost
 
-pub given-row : {a : Account} → Kept a → (k : ℕ) (row : Row) → monthAsked a k ≡ Given row → GivenRow a k row
+pub given-row : {a : Account} → Kept a → (k : ℕ) (row : Row) → monthAsked a k ≡ Is row → GivenRow a k row
 unfolding monthAsked
 given-row {a} kept k row e = by-test (outside 1 12 k) refl
   where

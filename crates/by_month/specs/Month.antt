@@ -5,15 +5,15 @@ use Rattle.exact.specs.Ranges.{outside}
 use Rattle.refusals.specs.Tables.{Line, when, firstOf}
 use Rattle.refusals.specs.declared.refusal.Refusal.the-variants.{Month}
 use Rattle.records.specs.House.{answered}
-use Rattle.rows.specs.Rows.{rowOf}
+use Rattle.rows.specs.Rows.{monthCount, rowOf}
 use Rattle.account.specs.declared.Account.{Account}
 use Rattle.by_month.specs.declared.Row.{Row}
 use Rattle.by_month.specs.declared.Asked.{Asked}
-use Rattle.by_month.specs.declared.Asked.the-variants.{Row as Given, Refused}
+use Rattle.by_month.specs.declared.Asked.the-variants.{Is, Refused}
 
 -- R92: "23 MONTH, when the asked month is not 1 to 12"
 abbrev pub monthLines : ℕ → List Line
-monthLines k = when (outside 1 12 k) Month ∷ []
+monthLines k = when (outside 1 monthCount k) Month ∷ []
 
 -- R92: the month's row, and its CO2 equivalent, which is GWP times the row's emitted sum
 abbrev pub monthRow : Account → ℕ → Row
@@ -21,4 +21,4 @@ monthRow a k = record { sums = rowOf (a .rows) k; co2e = a .site .gwp * rowOf (a
 
 -- R92: that, or 23
 unfoldable pub monthAsked : Account → ℕ → Asked
-monthAsked a k = answered Given Refused (monthRow a k) (firstOf (monthLines k))
+monthAsked a k = answered Is Refused (monthRow a k) (firstOf (monthLines k))

@@ -4,6 +4,7 @@ ghost use Rattle.account.specs.Kept.{Kept};
 ghost use Rattle.by_month.specs.Month.{monthAsked};
 use account::Account;
 use refusals::Refusal;
+use rows::MONTHS;
 use sums::Sums;
 
 // The sums of a month's minutes, and CO2 equivalent of what they emitted, in mg.
@@ -13,7 +14,7 @@ pub struct Row {
 }
 
 pub enum Asked {
-    Row(Row),
+    Is(Row),
     Refused(Refusal),
 }
 
@@ -24,11 +25,11 @@ pub fn month(account: Account, month: u32) -> Asked
 {
     let site = account.site();
     let rows = account.rows();
-    if (month < 1) | (12 < month) {
+    if (month < 1) | (MONTHS < month as usize) {
         return Asked::Refused(Refusal::Month);
     }
     let sums = rows[month as usize - 1];
-    Asked::Row(Row {
+    Asked::Is(Row {
         sums,
         co2e: site.gwp as u64 * sums.emitted,
     })

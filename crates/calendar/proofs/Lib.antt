@@ -1,3 +1,3 @@
-pub mod Every
 pub mod Months
+pub mod Throughout
 pub mod Unique

@@ -1,7 +1,7 @@
 -- The months, by tests that the checker computes over all days of each kind of year.
 use Prim.Native.Nat.{ℕ, _-_, _/_, _≤_, _<_}
 use mathlib.Core.Path.{_≡_, refl, subst}
-use mathlib.Core.Bool.{Bool, true, false, not, cond, _||_}
+use mathlib.Core.Bool.{Bool, true, false, not, cond, _&&_, _||_}
 use mathlib.Core.List.{List}
 use native.Mathlib.Omega.{arith}
 use borrow.Author.Tests.{le-leb}
@@ -10,7 +10,7 @@ use lib.ListN.{length, getD, replicate, length-replicate}
 use Rattle.site.specs.Rules.{isLeap, yearMinutes}
 use Rattle.calendar.specs.Calendar.{monthTable, entryIn, monthIn, monthOf}
 use Rattle.calendar.specs.Promises.{spans, span, MonthIs, EachInOne}
-use Rattle.calendar.proofs.Every.{both, both-left, both-right, every, at}
+use Rattle.calendar.proofs.Throughout.{first, second, throughout, at}
 
 -- the days of a year
 daysOf : Bool → ℕ
@@ -27,29 +27,29 @@ spanOf leap k = getD (spans leap) (k - 1) (0, 0)
 inOne : Bool → ℕ → ℕ → Bool
 inOne leap day x =
     let k = monthIn leap day in
-    both (both (leb 1 k) (leb k 12)) (both (leb (spanOf leap k .0) day) (leb day (spanOf leap k .1)))
+    (leb 1 k && leb k 12) && (leb (spanOf leap k .0) day && leb day (spanOf leap k .1))
 
 -- a span that holds the day is that of its month
 isIts : Bool → ℕ → ℕ → (ℕ × ℕ) → Bool
-isIts leap day place span = not (both (leb (span .0) day) (leb day (span .1))) || eqb (monthIn leap day - 1) place
+isIts leap day place span = not (leb (span .0) day && leb day (span .1)) || eqb (monthIn leap day - 1) place
 
 eachIts : Bool → ℕ → ℕ → Bool
-eachIts leap day x = every (isIts leap day) 0 (spans leap)
+eachIts leap day x = throughout (isIts leap day) 0 (spans leap)
 
 inYear : Bool → ℕ → (ℕ × ℕ) → Bool
 inYear leap place span = ltb (span .1) (daysOf leap)
 
-all-in-one : (leap : Bool) → T (every (inOne leap) 0 (days leap))
+all-in-one : (leap : Bool) → T (throughout (inOne leap) 0 (days leap))
 unfolding inOne spanOf days daysOf monthIn entryIn monthTable
 all-in-one true = tt
 all-in-one false = tt
 
-all-its : (leap : Bool) → T (every (eachIts leap) 0 (days leap))
+all-its : (leap : Bool) → T (throughout (eachIts leap) 0 (days leap))
 unfolding eachIts isIts days daysOf monthIn entryIn monthTable
 all-its true = tt
 all-its false = tt
 
-all-in-year : (leap : Bool) → T (every (inYear leap) 0 (spans leap))
+all-in-year : (leap : Bool) → T (throughout (inYear leap) 0 (spans leap))
 unfolding inYear daysOf
 all-in-year true = tt
 all-in-year false = tt
@@ -79,11 +79,11 @@ unfolding inOne days
 in-one leap day within =
     let k = monthIn leap day in
     let t = at (inOne leap) (days leap) (all-in-one leap) day 0 (omega (arith, length-replicate {A = ℕ} (daysOf leap) 0)) in
-    let month = both-left (both (leb 1 k) (leb k 12)) _ t in
-    let there = both-right (both (leb 1 k) (leb k 12)) _ t in (
-      (leb→le 1 k (both-left (leb 1 k) (leb k 12) month), leb→le k 12 (both-right (leb 1 k) (leb k 12) month)),
-      leb→le (spanOf leap k .0) day (both-left (leb (spanOf leap k .0) day) _ there),
-      leb→le day (spanOf leap k .1) (both-right (leb (spanOf leap k .0) day) _ there),
+    let month = first (leb 1 k && leb k 12) _ t in
+    let there = second (leb 1 k && leb k 12) _ t in (
+      (leb→le 1 k (first (leb 1 k) (leb k 12) month), leb→le k 12 (second (leb 1 k) (leb k 12) month)),
+      leb→le (spanOf leap k .0) day (first (leb (spanOf leap k .0) day) _ there),
+      leb→le day (spanOf leap k .1) (second (leb (spanOf leap k .0) day) _ there),
     )
 
 pub each-in-one : EachInOne
@@ -102,8 +102,8 @@ its leap place day below from to =
     let within : day < daysOf leap = omega arith in
     let t = at (eachIts leap) (days leap) (all-its leap) day 0 (omega (arith, length-replicate {A = ℕ} (daysOf leap) 0)) in
     let u = at (isIts leap day) (spans leap) t place (0, 0) there in
-    let v = subst (λ (b : Bool). T (not (both b (leb day (span .1))) || eqb (monthIn leap day - 1) place)) (le-leb (span .0) day from) u in
-    (within, eqb→eq (monthIn leap day - 1) place (subst (λ (b : Bool). T (not (both true b) || eqb (monthIn leap day - 1) place)) (le-leb day (span .1) to) v))
+    let v = subst (λ (b : Bool). T (not (b && leb day (span .1)) || eqb (monthIn leap day - 1) place)) (le-leb (span .0) day from) u in
+    (within, eqb→eq (monthIn leap day - 1) place (subst (λ (b : Bool). T (not (true && b) || eqb (monthIn leap day - 1) place)) (le-leb day (span .1) to) v))
 
 pub month-is : MonthIs
 unfolding monthOf

@@ -4,7 +4,7 @@ mod table;
 ghost use mathlib.Core.Path.{_≡_};
 ghost use Rattle.site.specs.Rules.{isLeap};
 ghost use Rattle.calendar.specs.Calendar.{entryIn, monthOf};
-use table::MONTHS;
+use table::TABLE;
 
 // The entry of 29 February, counted from 0.
 const LEAP_DAY: u32 = 59;
@@ -25,5 +25,5 @@ pub fn month_of(day: u32, year: u16) -> u8
     ensures { λ r. ⌜ r ≡ monthOf year day ⌝ }
 {
     let entry = entry_of(day, year);
-    if entry < 366 { MONTHS[entry] } else { 0 }
+    if entry < TABLE.len() { TABLE[entry] } else { 0 }
 }

@@ -1,5 +1,5 @@
 // The month of each day of a leap year, from 1 for January to 12 for December.
-pub(crate) const MONTHS: [u8; 366] = [
+pub(crate) const TABLE: [u8; 366] = [
     1,
     1,
     1,

@@ -10,7 +10,7 @@ pub fn month(account: Account, month: u32, out: &mut [u8], at: usize) -> usize
     requires { ⌜ Kept account ⌝ }
 {
     match by_month::month(account, month) {
-        Asked::Row(_) => month_line::put_month(out, at, account, month),
+        Asked::Is(_) => month_line::put_month(out, at, account, month),
         Asked::Refused(refusal) => put::refused(out, at, refusal),
     }
 }

@@ -9,7 +9,7 @@ use Rattle.exact.specs.Fractions.{Frac}
 use Rattle.sums.specs.Bounds.{exactSums, Bounds}
 use Rattle.sums.specs.Sums.{total}
 use Rattle.calendar.specs.Calendar.{monthOf}
-use Rattle.rows.specs.Rows.{rowOf, together}
+use Rattle.rows.specs.Rows.{monthCount, rowOf, together}
 use Rattle.tool06.specs.Bounds.{Entry, worthOf, exactOf}
 use Rattle.tool06.specs.Tool.{Each, Masses, AllPositive, by-equation-7}
 use Rattle.account.specs.declared.Account.{Account}
@@ -26,11 +26,11 @@ ofMonth k (e ∷ es) = cond (inMonth k e) (e ∷ ofMonth k es) (ofMonth k es)
 
 -- R94: "each column's twelve rows add up to the account's sum"
 abbrev pub RowsAddUp : Type 0
-RowsAddUp = OfEvery (λ m s days a es. (length (a .rows) ≡ 12) × (together (a .rows) ≡ a .sums))
+RowsAddUp = OfEvery (λ m s days a es. (length (a .rows) ≡ monthCount) × (together (a .rows) ≡ a .sums))
 
 -- R94: for each month, January being month 1
 abbrev pub OfEachMonth : (ℕ → Type 0) → Type 0
-OfEachMonth P = (k : ℕ) → 1 ≤ k → k ≤ 12 → P k
+OfEachMonth P = (k : ℕ) → 1 ≤ k → k ≤ monthCount → P k
 
 -- R94: "each row is the sum over that month's minutes"
 abbrev pub RowsAre : Type 0

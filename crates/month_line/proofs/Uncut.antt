@@ -9,7 +9,7 @@ use Rattle.account.specs.Kept.{Kept}
 use Rattle.account.specs.declared.Account.{Account}
 use Rattle.by_month.specs.Month.{monthAsked}
 use Rattle.by_month.specs.declared.Asked.{Asked}
-use Rattle.by_month.specs.declared.Asked.the-variants.{Row as Given, Refused}
+use Rattle.by_month.specs.declared.Asked.the-variants.{Is, Refused}
 use Rattle.by_month.specs.declared.Row.{Row}
 use Rattle.by_month.proofs.Laws.{GivenRow, given-row}
 use Rattle.text.specs.Text.{decimal}
@@ -42,5 +42,5 @@ unfolding monthLine
 month-uncut a kept k = by-asked (monthAsked a k) refl
   where
     by-asked : (asked : Asked) → monthAsked a k ≡ asked → length (askedLine k asked) ≤ 163
-    by-asked (Given row) e = row-within a k row (given-row kept k row e)
+    by-asked (Is row) e = row-within a k row (given-row kept k row e)
     by-asked (Refused r) e = omega arith

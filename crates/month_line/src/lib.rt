@@ -34,7 +34,7 @@ pub fn put_month(out: &mut [u8], at: usize, account: Account, month: u32) -> usi
     ensures { λ r. ⌜ (r ≡ placeAfter (now (out .entry)) at (monthLine account month)) × (now (out .exit) ≡ placed (now (out .entry)) at (monthLine account month)) ⌝ }
 {
     match by_month::month(account, month) {
-        Asked::Row(row) => {
+        Asked::Is(row) => {
             if LONGEST <= room(out, at) {
                 put_row(out, at, month, row)
             } else {

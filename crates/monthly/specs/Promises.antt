@@ -12,18 +12,18 @@ use Rattle.account.specs.declared.Account.{Account}
 use Rattle.monthly.specs.Monthly.{monthSheet}
 
 -- R93: what is printed of records after the site, whose account was opened
-abbrev pub sheetOf : AddedAll → List ℕ
-sheetOf all = monthSheet (all .account) (all .verdict)
+abbrev pub monthsOf : AddedAll → List ℕ
+monthsOf all = monthSheet (all .account) (all .verdict)
 
 -- R76: what records print where some came before them and none of those was refused
-abbrev pub sheetAfter : Masses → AddedAll → List ℕ → Verdict → List ℕ
-sheetAfter m before c Fine = sheetOf (addAll m (before .account) (recordsOf c))
-sheetAfter m before c (Refuse r) = sheetOf before
+abbrev pub monthsAfter : Masses → AddedAll → List ℕ → Verdict → List ℕ
+monthsAfter m before c Fine = monthsOf (addAll m (before .account) (recordsOf c))
+monthsAfter m before c (Refuse r) = monthsOf before
 
 -- R76: n whole records, and then what follows them, print what they print in one piece
-abbrev pub SheetInPieces : Type 0
-SheetInPieces =
+abbrev pub MonthsInPieces : Type 0
+MonthsInPieces =
     (m : Masses) (a : Account) (n : ℕ) (b c : List ℕ)
     → length b ≡ n * minuteForm .size
     → let before = addAll m a (recordsOf b) in
-    sheetOf (addAll m a (recordsOf (b ++ c))) ≡ sheetAfter m before c (before .verdict)
+    monthsOf (addAll m a (recordsOf (b ++ c))) ≡ monthsAfter m before c (before .verdict)

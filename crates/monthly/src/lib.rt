@@ -11,9 +11,8 @@ ghost use Rattle.monthly.specs.Monthly.{firstMonths, monthSheet};
 use account::Account;
 use month_line::put_month;
 use refusals::Verdict;
+use rows::MONTHS;
 use tool06::Judged;
-
-const MONTHS: u32 = 12;
 
 fn put_months(out: &mut [u8], account: Account) -> usize
     requires { ⌜ Kept account ⌝ }
@@ -23,7 +22,7 @@ fn put_months(out: &mut [u8], account: Account) -> usize
 {
     let mut at: usize = 0;
     let mut month: u32 = 0;
-    while month < MONTHS {
+    while month < MONTHS as u32 {
         month = month + 1;
         at = put_month(out, at, account, month);
     }

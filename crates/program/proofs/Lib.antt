@@ -1,2 +1,3 @@
-pub mod Buffers
+pub mod Lent
 pub mod Outcomes
+pub mod Sites

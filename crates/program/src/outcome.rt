@@ -1,12 +1,6 @@
 // How a program ends: what it says of it, and what its launcher is told.
-ghost use mathlib.Core.Path.{_≡_};
-ghost use lib.ListN.{length};
-ghost use Rattle.exact.specs.Bytes.{put};
 ghost use Rattle.account.specs.Kept.{Kept};
-ghost use Rattle.lines.specs.Lines.{siteLine};
-use crate::streams::print;
 use account::Account;
-use ending::put_refused_site;
 use minute::Minute;
 use refusals::Refusal;
 use refusals::Verdict;
@@ -37,10 +31,10 @@ pub fn tell(outcome: Outcome) {
     }
 }
 
-// How the reading of the minutes ended, in numbers alone: an account that is handed on whole keeps all of its rows in the loop.
+// How the reading of the minutes ended, without the account: one that is handed on whole keeps all of its rows in the loop.
 // Well: the last lines are printed. The verdict is that of the last record, and the bytes are those of the last buffer.
 pub struct Ended {
-    pub outcome: Outcome,
+    outcome: Outcome,
     verdict: Verdict,
     site: Site,
     expected: u32,
@@ -92,27 +86,5 @@ pub fn conclude(ended: Ended, records: &[u8]) -> Outcome {
             explain(refusal, ended, records);
             Outcome::Refused
         }
-    }
-}
-
-// All that is printed of a site that is refused.
-fn print_refused(refusal: Refusal, out: &mut [u8]) -> bool
-    requires { ⌜ length (now out) ≡ 65536 ⌝ }
-    ensures { λ _. ⌜ now (out .exit) ≡ put (now (out .entry)) 0 (siteLine refusal) ⌝ }
-{
-    let used = put_refused_site(out, refusal);
-    print(out, used)
-}
-
-// A site that is refused, and why. No minute follows.
-pub(crate) fn refuse(refusal: Refusal, bytes: &[u8], out: &mut [u8]) -> Outcome
-    requires { ⌜ length (now out) ≡ 65536 ⌝ }
-    ensures { λ r. ⌜ (r ≡ Outcome.More → ⊥) ⌝ }
-{
-    if print_refused(refusal, out) {
-        notes::refused_site(refusal, bytes);
-        Outcome::Refused
-    } else {
-        Outcome::Failed
     }
 }

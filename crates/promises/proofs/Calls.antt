@@ -37,7 +37,7 @@ use Rattle.in_turn.specs.Turn.{recordsOf, AddedAll, withAnswer, addAll}
 use Rattle.account.specs.declared.Account.{Account}
 use Rattle.account.specs.declared.close.Closed.the-variants.{Tonnes, Refused as NotClosed}
 use Rattle.by_month.specs.Month.{monthLines, monthRow, monthAsked}
-use Rattle.by_month.specs.declared.Asked.the-variants.{Row as RowAsked, Refused as NoRow}
+use Rattle.by_month.specs.declared.Asked.the-variants.{Is, Refused as NoRow}
 use Rattle.run.specs.Check.{firstRefused, wholeOr, checked}
 use Rattle.day.specs.Part.{dayPart}
 use Rattle.host.specs.Single.{singleLines, single, singleFigures, returned, answerBytes, answerAfter}
@@ -95,7 +95,7 @@ closing-a-year a = record { in-order = refl; decided = by-table Tonnes NotClosed
 
 asking-a-month : AskingAMonth
 unfolding monthAsked
-asking-a-month a k = record { in-order = refl; decided = by-table RowAsked NoRow saidOfAsked (monthRow a k) refl (λ r. refl) (monthLines k) }
+asking-a-month a k = record { in-order = refl; decided = by-table Is NoRow saidOfAsked (monthRow a k) refl (λ r. refl) (monthLines k) }
 
 same-number : {A : Type 0} (v : A) (w : Verdict) → returned w ≡ saidOfVerdict v w .number
 unfolding returned

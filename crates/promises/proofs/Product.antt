@@ -26,12 +26,12 @@ use Rattle.lines.proofs.NoneCut.{none-cut}
 use Rattle.sheet.proofs.Uncut.{sheet-uncut}
 use Rattle.summary.proofs.Uncut.{rule-uncut}
 use Rattle.report.proofs.Pieces.{in-pieces}
-use Rattle.monthly.proofs.Pieces.{sheet-in-pieces}
+use Rattle.monthly.proofs.Pieces.{months-in-pieces}
 use Rattle.month_line.proofs.Uncut.{month-uncut}
 use Rattle.promises.specs.Outcomes.{OneOutcomeOfCalls}
 use Rattle.promises.specs.Product.{Product}
 use Rattle.promises.proofs.Calls.{numbers-of-calls, refused-changes-nothing}
-use Rattle.promises.proofs.Program.{reports-are-given, sheets-are-given}
+use Rattle.promises.proofs.Program.{reports-are-given, months-are-given}
 
 one-outcome-of-calls : OneOutcomeOfCalls
 one-outcome-of-calls = record {
@@ -68,8 +68,8 @@ product = record {
   rounded-once = rounded-once;
   examples = table-holds;
   chart-points = lossless;
-  printed = (none-cut, sheet-uncut, rule-uncut, month-uncut, reads-back, in-pieces, sheet-in-pieces);
-  program = (reports-are-given, sheets-are-given);
+  printed = (none-cut, sheet-uncut, rule-uncut, month-uncut, reads-back, in-pieces, months-in-pieces);
+  program = (reports-are-given, months-are-given);
   demand-three = (demand-three, demand-three-by-seven, no-slack);
   months = (month-is, each-in-one);
   rows = (rows-add-up, rows-are, demand-three-by-month, demand-three-by-month-and-seven);

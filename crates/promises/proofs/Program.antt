@@ -7,10 +7,10 @@ use Rattle.account.specs.declared.Account.{Account}
 use Rattle.in_turn.proofs.Turn.{after-all}
 use Rattle.history.specs.History.{then, add}
 use Rattle.report.specs.Report.{report}
-use Rattle.promises.specs.Program.{Given, by, ReportsAreGiven, SheetsAreGiven}
+use Rattle.promises.specs.Program.{Given, by, ReportsAreGiven, MonthsAreGiven}
 
-pub sheets-are-given : SheetsAreGiven
-sheets-are-given m s days a b here = after-all m (Given m s days) one-more a here (recordsOf b)
+pub months-are-given : MonthsAreGiven
+months-are-given m s days a b here = after-all m (Given m s days) one-more a here (recordsOf b)
   where
     -- one record more is one call more
     one-more : (c : Account) → Given m s days c → (r : List ℕ) → Given m s days (addTo m c r .account)
@@ -18,4 +18,4 @@ sheets-are-given m s days a b here = after-all m (Given m s days) one-more a her
 
 pub reports-are-given : ReportsAreGiven
 unfolding report
-reports-are-given = sheets-are-given
+reports-are-given = months-are-given

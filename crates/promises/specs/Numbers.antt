@@ -24,7 +24,7 @@ use Rattle.tool06.specs.declared.figures.Judged.the-variants.{Accepted, Refused
 use Rattle.account.specs.declared.close.Closed.{Closed}
 use Rattle.account.specs.declared.close.Closed.the-variants.{Tonnes, Refused as NotClosed}
 use Rattle.by_month.specs.declared.Asked.{Asked}
-use Rattle.by_month.specs.declared.Asked.the-variants.{Row as RowAsked, Refused as NoRow}
+use Rattle.by_month.specs.declared.Asked.the-variants.{Is, Refused as NoRow}
 use Rattle.by_month.specs.declared.Row.{Row}
 use Rattle.run.specs.declared.Checked.{Checked}
 use Rattle.run.specs.declared.Checked.the-variants.{Fine as NoneRefused, Run, At}
@@ -64,7 +64,7 @@ saidOfClosed (NotClosed r) = refused r
 
 -- R58, R92: asking for a month
 abbrev pub saidOfAsked : Asked → Said Row
-saidOfAsked (RowAsked row) = given row
+saidOfAsked (Is row) = given row
 saidOfAsked (NoRow r) = refused r
 
 -- R58: a verdict, where this stands beside one that refuses nothing

@@ -17,10 +17,10 @@ use Rattle.sheet.specs.Promises.{SheetUncut}
 use Rattle.summary.specs.Promises.{RuleUncut}
 use Rattle.report.specs.Promises.{InPieces}
 use Rattle.month_line.specs.Promises.{MonthUncut}
-use Rattle.monthly.specs.Promises.{SheetInPieces}
+use Rattle.monthly.specs.Promises.{MonthsInPieces}
 use Rattle.promises.specs.Calls.{NumbersOfCalls, RefusedChangesNothing}
 use Rattle.promises.specs.Outcomes.{OneOutcomeOfCalls}
-use Rattle.promises.specs.Program.{ReportsAreGiven, SheetsAreGiven}
+use Rattle.promises.specs.Program.{ReportsAreGiven, MonthsAreGiven}
 
 -- R83 to R94: every promise, of which this is the one page
 pub record Product : Type 1 where
@@ -45,9 +45,9 @@ pub record Product : Type 1 where
   -- R49: a chart point's sums without loss
   pub chart-points : Lossless
   -- R74 to R76, R93: no printed line is cut, its numbers read back, and records may come in pieces
-  pub printed : NoneCut × SheetUncut × RuleUncut × MonthUncut × DecimalsReadBack × InPieces × SheetInPieces
+  pub printed : NoneCut × SheetUncut × RuleUncut × MonthUncut × DecimalsReadBack × InPieces × MonthsInPieces
   -- R59, R68, R93: the account that a program ends with is one that the calls give, so that all here holds of it
-  pub program : ReportsAreGiven × SheetsAreGiven
+  pub program : ReportsAreGiven × MonthsAreGiven
   -- R86: demand 3. The sums beside the tool's equations, with any positive molecular mass for each minute, and with that of each minute's own gas; nothing widens its bounds
   pub demand-three : DemandThree × DemandThreeBySeven × NoSlack
   -- R90: the months are the calendar's, and each day has one

@@ -19,6 +19,6 @@ abbrev pub ReportsAreGiven : Type 0
 ReportsAreGiven = (m : Masses) (s : Site) (days : List ℤ) (a : Account) (b : List ℕ) → Given m s days a → Given m s days (report m a b .account)
 
 -- R59, R93: and of the one whose months are printed
-abbrev pub SheetsAreGiven : Type 0
-SheetsAreGiven =
+abbrev pub MonthsAreGiven : Type 0
+MonthsAreGiven =
     (m : Masses) (s : Site) (days : List ℤ) (a : Account) (b : List ℕ) → Given m s days a → Given m s days (addAll m a (recordsOf b) .account)

@@ -6,7 +6,7 @@ use lib.Dec.{leb}
 use lib.ListN.{length}
 use Rattle.exact.specs.Bytes.{put}
 
--- R75: no line is longer than 163 bytes: 43 of words and line end, and six numbers of at most 20 digits
+-- R75: no line is longer than 163 bytes: the longest have 43 of words and line end, and six numbers of at most 20 digits; a month's has 52, three numbers of at most 6 digits and four of 20
 abbrev pub hasRoom : List ℕ → ℕ → Bool
 hasRoom buffer at = leb (at + 163) (length buffer)
 

@@ -5,11 +5,15 @@ use lib.ListN.{getD, set, replicate}
 use Rattle.sums.specs.Sums.{noSums, _⊞_, total}
 use Rattle.sums.specs.declared.Sums.{Sums}
 
+-- R91: one for each month
+abbrev pub monthCount : ℕ
+monthCount = 12
+
 -- R91: at first all numbers are 0
 unfoldable pub noRows : List Sums
-noRows = replicate 12 noSums
+noRows = replicate monthCount noSums
 
--- R91: the row of month k, January being month 1
+-- R91: the row of month k, January being month 1; no call asks for month 0, which would be January's too
 abbrev pub rowOf : List Sums → ℕ → Sums
 rowOf rows k = getD rows (k - 1) noSums
 

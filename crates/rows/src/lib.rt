@@ -5,9 +5,12 @@ ghost use lib.Dec.{eqb};
 ghost use lib.ListN.{length, getD};
 ghost use Rattle.sums.specs.Sums.{noSums, _⊞_};
 ghost use Rattle.sums.specs.scaffold.Fits.{Fits};
-ghost use Rattle.rows.specs.Rows.{noRows, rowOf, withIn};
+ghost use Rattle.rows.specs.Rows.{monthCount, noRows, rowOf, withIn};
 ghost use Rattle.rows.specs.scaffold.Only.{ifHere, only};
 use sums::Sums;
+
+// A row for each month.
+pub const MONTHS: usize = 12;
 
 // A number where a test holds, else 0. Number by number the compiler keeps sums in registers; as a whole it would copy them.
 fn if_here32(here: bool, x: u32) -> u32
@@ -36,15 +39,15 @@ fn only(here: bool, sums: Sums) -> Sums
 }
 
 // Rows of no minute.
-pub fn none() -> [Sums; 12]
+pub fn none() -> [Sums; MONTHS]
     ensures { λ r. ⌜ r ≡ noRows ⌝ }
 {
-    [Sums::none(); 12]
+    [Sums::none(); MONTHS]
 }
 
 // The row at a place, with one more where it is the month's: January stands at place 0.
-fn row_with(rows: [Sums; 12], place: usize, month: u8, one: Sums) -> Sums
-    requires { ⌜ (place < 12) × (length rows ≡ 12) ⌝ }
+fn row_with(rows: [Sums; MONTHS], place: usize, month: u8, one: Sums) -> Sums
+    requires { ⌜ (place < monthCount) × (length rows ≡ monthCount) ⌝ }
     requires { ⌜ Fits (getD rows place noSums ⊞ only (eqb month (place + 1)) one) ⌝ }
     ensures { λ r. ⌜ r ≡ getD rows place noSums ⊞ only (eqb month (place + 1)) one ⌝ }
 {
@@ -53,8 +56,8 @@ fn row_with(rows: [Sums; 12], place: usize, month: u8, one: Sums) -> Sums
 }
 
 // The rows with one more in a month's. Each is made anew, since an array that is stored to at one place is slow to copy afterwards.
-pub fn with_in(rows: [Sums; 12], month: u8, one: Sums) -> [Sums; 12]
-    requires { ⌜ (length rows ≡ 12) × (1 ≤ month) ⌝ }
+pub fn with_in(rows: [Sums; MONTHS], month: u8, one: Sums) -> [Sums; MONTHS]
+    requires { ⌜ (length rows ≡ monthCount) × (1 ≤ month) ⌝ }
     requires { ⌜ ((k : ℕ) → Fits (rowOf rows k ⊞ only (eqb month k) one)) ⌝ }
     ensures { λ r. ⌜ r ≡ withIn rows month one ⌝ }
 {

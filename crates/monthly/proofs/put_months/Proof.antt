@@ -85,6 +85,7 @@ put-months-spec =
     μ-loop
     loop-holds
     (λ c. search needs)
+    (λ c. search needs)
     put-month-requires
     (λ c. search needs)
     loop-again

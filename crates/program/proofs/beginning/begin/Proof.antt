@@ -7,7 +7,7 @@ use Rattle.program.proofs.beginning.begin.Tie as tie
 returns-2 : tie.Need-returns-2
 returns-2 c =
     let received = c .before .before in
-    λ e. opened-kept _ _ (received .before .before .before .before .«open» .ensures) (received .receive .ensures e)
+    λ e. opened-kept _ _ (received .before .before .before .before .«open» .ensures) (received .receive .ensures e .0)
 
 pub begin-spec : {M : Type 1} → statement M
 begin-spec =

@@ -1,7 +1,7 @@
 use borrow.Author.Needs.{needs}
 use Rattle.program.proofs.Outcomes.{refused-ends, failed-ends}
-use Rattle.program.proofs.outcome.refuse.Statement.{statement}
-use Rattle.program.proofs.outcome.refuse.Tie as tie
+use Rattle.program.proofs.beginning.refuse.Statement.{statement}
+use Rattle.program.proofs.beginning.refuse.Tie as tie
 
 pub refuse-spec : {M : Type 1} → statement M
 refuse-spec =

@@ -1,8 +1,8 @@
 use native.Mathlib.Omega.{arith}
 use borrow.Author.Needs.{needs}
 use Rattle.lines.proofs.NoneCut.{none-cut}
-use Rattle.program.proofs.outcome.print_refused.Statement.{statement}
-use Rattle.program.proofs.outcome.print_refused.Tie as tie
+use Rattle.program.proofs.beginning.print_refused.Statement.{statement}
+use Rattle.program.proofs.beginning.print_refused.Tie as tie
 
 print-requires : tie.Need-print-requires
 print-requires c κs =
