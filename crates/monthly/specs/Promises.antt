@@ -15,7 +15,7 @@ use Rattle.monthly.specs.Monthly.{monthSheet}
 abbrev pub monthsOf : AddedAll → List ℕ
 monthsOf all = monthSheet (all .account) (all .verdict)
 
--- R76: what records print where some came before them and none of those was refused
+-- R76: what is printed of records that follow others: where one of those was refused, nothing more than of them
 abbrev pub monthsAfter : Masses → AddedAll → List ℕ → Verdict → List ℕ
 monthsAfter m before c Fine = monthsOf (addAll m (before .account) (recordsOf c))
 monthsAfter m before c (Refuse r) = monthsOf before

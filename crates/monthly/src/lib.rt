@@ -7,6 +7,7 @@ ghost use Rattle.account.specs.Kept.{Kept};
 ghost use Rattle.text.specs.Places.{PutFrom};
 ghost use Rattle.room.specs.Places.{placed, placeAfter};
 ghost use Rattle.lines.specs.Lines.{lastLine};
+ghost use Rattle.rows.specs.Rows.{monthCount};
 ghost use Rattle.monthly.specs.Monthly.{firstMonths, monthSheet};
 use account::Account;
 use month_line::put_month;
@@ -17,7 +18,7 @@ use tool06::Judged;
 fn put_months(out: &mut [u8], account: Account) -> usize
     requires { ⌜ Kept account ⌝ }
     requires { ⌜ length (now out) ≡ 65536 ⌝ }
-    ensures { λ r. ⌜ PutFrom (now (out .entry)) 0 (firstMonths account 12) (now (out .exit)) r ⌝ }
+    ensures { λ r. ⌜ PutFrom (now (out .entry)) 0 (firstMonths account monthCount) (now (out .exit)) r ⌝ }
     ensures within { λ r. ⌜ r ≤ 1956 ⌝ }
 {
     let mut at: usize = 0;
