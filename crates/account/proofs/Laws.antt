@@ -64,11 +64,11 @@ only-one true f = (omega (arith, minutes-one f), gas-one f)
 only-one false f = (omega arith, omega arith)
 
 -- a row is at most the sums
-pub row-least : {a : Account} → Kept a → (k : ℕ) → (rowOf (a .rows) k .minutes ≤ a .sums .minutes) × (rowOf (a .rows) k .gas ≤ a .sums .gas)
-row-least {a} kept k = rw (kept .rows-add-up) at (row-at-most (a .rows) k)
+pub row-most : {a : Account} → Kept a → (k : ℕ) → (rowOf (a .rows) k .minutes ≤ a .sums .minutes) × (rowOf (a .rows) k .gas ≤ a .sums .gas)
+row-most {a} kept k = rw (kept .rows-add-up) at (row-at-most (a .rows) k)
 
 pub row-co2e-within : {a : Account} → Kept a → (k : ℕ) → a .site .gwp * rowOf (a .rows) k .emitted ≤ 3773606400000000
-row-co2e-within {a} kept k = gwp-times kept (rowOf (a .rows) k .emitted) (omega (arith, kept .rows-within k .emitted-within, row-least kept k .1))
+row-co2e-within {a} kept k = gwp-times kept (rowOf (a .rows) k .emitted) (omega (arith, kept .rows-within k .emitted-within, row-most kept k .1))
 
 pub month-due : (a : Account) → a .sums .minutes < yearMinutes (a .site .year) → (1 ≤ monthDue a) × (monthDue a ≤ 12)
 month-due a room = let m = each-in-one (a .site .year) (a .sums .minutes / 1440) (day-in-year (a .site .year) (a .sums .minutes) room) in (m .0, m .1)
@@ -90,7 +90,7 @@ module _ {a : Account} {f : Figures} (kept : Kept a) (small : Small f) (room : a
   unfolding _⊞_
   row-fits here k =
       let y = year-within (a .site .year) .1 in
-      let most = row-least kept k in
+      let most = row-most kept k in
       let one = only-one here f in
       record {
         minutes-fit = omega (arith, most .0, one .0);

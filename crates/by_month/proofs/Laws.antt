@@ -10,7 +10,7 @@ use Rattle.exact.proofs.Bools.{or-false}
 use Rattle.sums.specs.scaffold.Fits.{minutesMost}
 use Rattle.account.specs.Kept.{Kept}
 use Rattle.account.specs.declared.Account.{Account}
-use Rattle.account.proofs.Laws.{row-least}
+use Rattle.account.proofs.Laws.{row-most}
 use Rattle.account.proofs.Within.{year-within}
 use Rattle.by_month.specs.Month.{monthRow, monthAsked}
 use Rattle.by_month.specs.declared.Asked.the-variants.{Is}
@@ -36,11 +36,11 @@ given-row {a} kept k row e = by-test (outside 1 12 k) refl
     by-test false inside =
         let z = rw inside at e in
         let same : row ≡ monthRow a k = cc in
-        let least = row-least kept k in
+        let most = row-most kept k in
         let y = year-within (a .site .year) .1 in
         record {
           is = same;
           month-most = omega (arith, a-month k inside .1);
-          minutes-most = rw same (omega (arith, least .0, kept .minutes-within));
-          gas-most = rw same (omega (arith, least .1, kept .gas-counted, kept .minutes-within));
+          minutes-most = rw same (omega (arith, most .0, kept .minutes-within));
+          gas-most = rw same (omega (arith, most .1, kept .gas-counted, kept .minutes-within));
         }
