@@ -15,6 +15,7 @@ SKIP = {"out", ".git", "target"}
 LIST_WORDS = set("length take drop append set get_or map mod div mul add sub le lt min max pow cond replicate reverse".split())
 SIGNATURE = re.compile(r"^\s*(?:(?:abbrev|unfoldable|pub|ruleset|data|record)\s+)*([^\s(){}\[\],;:.]+)(?:\s*\{[^}]*\})*\s+:(?:\s|$)")
 TOKEN = re.compile(r"[^\s(){}\[\],;:.`'\"]['’]?[^\s(){}\[\],;:.`\"]*")
+IMPORT = re.compile(r"^\s*(?:pub |ghost )?use ([^\s{;]+?)\.\{([^}]*)\}", re.M)
 # what does not follow from the rule
 ODD = {"getD-from": "get_or-from", "whole-on": "whole_on_lem", "is-last": "is_last_lem", "at-most": "at_most_lem"}
 # a lemma that would have the name of a definition beside it
@@ -89,8 +90,19 @@ def spellings():
     return new
 
 
+def from_elsewhere(text, crates):
+    """The names that a file imports from no crate of this repository: they keep their spelling."""
+    names = set()
+    for m in IMPORT.finditer(text):
+        of = re.match(r"Rattle\.(\w+)\.", m[1])
+        if not of or of[1] not in crates:
+            names |= {it.split(" as ")[0].strip() for it in m[2].split(",")}
+    return names
+
+
 def main():
     new = spellings()
+    crates = set(os.listdir("crates"))
     if "--list" in sys.argv[1:]:
         for k in sorted(new):
             print(k, new[k])
@@ -98,7 +110,8 @@ def main():
     for path in files("crates", (".antt", ".rt", ".edit")):
         text = read(path)
         beside = next((v for k, v in BESIDE.items() if path.endswith(k)), {})
-        turned = TOKEN.sub(lambda m: beside.get(m[0], new.get(m[0], m[0])), text)
+        stay = from_elsewhere(text, crates)
+        turned = TOKEN.sub(lambda m: m[0] if m[0] in stay else beside.get(m[0], new.get(m[0], m[0])), text)
         if turned != text:
             with open(path, "w", encoding="utf-8") as f:
                 f.write(turned)

@@ -2,7 +2,7 @@
 use Prim.Native.Nat.{ℕ, suc, ◌+◌, ◌-◌, ◌<◌, min}
 use mathlib.Core.Path.{◌≡◌, refl, sym, ◌∙◌}
 use mathlib.Core.List.{List, ◌++◌}
-use native.Mathlib.Numerals.{add_one}
+use native.Mathlib.Numerals.{add-one}
 use native.Mathlib.Omega.{arith}
 use lib.IntN.{ℤ, pos}
 use lib.ListN.{length, get_or, take, set, replicate, length-take}
@@ -15,7 +15,7 @@ pub one_more : (days : List ℤ) (i : ℕ) → i < length days → i < 64 → se
 one_more days i h most =
     let n : ℕ = 64 - (i + 1) in
     let more : 64 - i ≡ suc n = omega arith in
-    rw (more, set_at (take i days) (pos 0) (replicate n (pos 0)) (get_or days i (pos 0)) i (length-take-le i days (omega arith)), ← append_snoc, ← take-suc days i (pos 0) h, add_one) refl
+    rw (more, set_at (take i days) (pos 0) (replicate n (pos 0)) (get_or days i (pos 0)) i (length-take-le i days (omega arith)), ← append_snoc, ← take-suc days i (pos 0) h, add-one) refl
 
 -- so many as the list has, at most 64, are all of them
 pub all_kept : (days : List ℤ) (n : ℕ) → n ≡ min (length days) 64 → ◌≡◌ {A = Maintenance} (record { days = take n days ++ replicate (64 - n) (pos 0); listed = length days }) (maintenance_of days)

@@ -3,7 +3,7 @@ use Prim.Native.Nat.{ℕ, zero, suc, ◌+◌, ◌≤◌, ◌<◌}
 use mathlib.Core.Path.{◌≡◌, refl}
 use mathlib.Core.Bool.{Bool, true, false, ◌||◌, ◌&&◌, not, true≢false}
 use mathlib.Core.List.{List, [], ◌∷◌}
-use native.Mathlib.Numerals.{add_one}
+use native.Mathlib.Numerals.{add-one}
 use native.Mathlib.Omega.{arith}
 use borrow.Author.Tests.{leb-true, leb-false, le-leb, lt-ltb, le-ltb}
 use lib.Dec.{leb, ltb, leb-zero, leb-suc-zero, leb-suc-suc}
@@ -72,7 +72,7 @@ module _ (days : List ℤ) (last : ℤ) where
   unfolding rising_from within
   at_day before i h low =
       let d = get_or days i (pos 0) in
-      rw (drop-cons days i (pos 0) h, add_one, not_le_z before d)
+      rw (drop-cons days i (pos 0) h, add-one, not_le_z before d)
       (day_test (le_z d before) (lt_z d (minus 3660)) (lt_z last d) _ _ (λ up. (from_first_on before d low up).0))
 
 -- and the first of them against the day before the first allowed

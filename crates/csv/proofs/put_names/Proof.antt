@@ -1,7 +1,7 @@
 use Prim.Native.Nat.{◌+◌, ◌-◌, ◌≤◌}
 use mathlib.Core.Path.{◌≡◌, refl, sym, ◌∙◌}
 use native.Mathlib.Nat.{add-zero, add_assoc}
-use native.Mathlib.Numerals.{add_one}
+use native.Mathlib.Numerals.{add-one}
 use native.Mathlib.Omega.{arith}
 use lib.ListN.{length, drop, length-set, drop_of_length-le}
 use lib.Seq.{drop-cons}
@@ -29,7 +29,7 @@ loop-again c =
     let l = c.before.before.before.loop in
     let a = c.before.before.before.before.before.before.args in
     let rest = drop-cons a.names.now l.i 0 (omega arith) in
-    (omega arith, simp length-set l.invariant.1, rw (← add_assoc a.at l.i 1, add_one l.i, c.part.ensures) (rw rest at l.invariant.2))
+    (omega arith, simp length-set l.invariant.1, rw (← add_assoc a.at l.i 1, add-one l.i, c.part.ensures) (rw rest at l.invariant.2))
 
 returns : tie.Need-returns invariant-loop decreases-loop
 unfolding put apart

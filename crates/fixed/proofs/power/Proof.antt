@@ -1,7 +1,7 @@
 use Prim.Native.Nat.{◌-◌, ◌^◌, ◌≤◌}
 use mathlib.Core.Path.{◌≡◌, refl, ap, ◌∙◌}
 use native.Mathlib.Nat.{pow-suc, pow-le-pow_right}
-use native.Mathlib.Numerals.{add_one}
+use native.Mathlib.Numerals.{add-one}
 use native.Mathlib.Omega.{arith}
 use borrow.Author.Rules.{rules}
 use Rattle.fixed.proofs.power.Statement.{statement}
@@ -22,7 +22,7 @@ mul-product c =
     record { fits = omega (arith, pow-le-pow_right {n = 10} (omega arith) {i = l.k} {j = 9} (omega arith)) }
 
 loop-again : tie.Need-loop-preserved invariant-loop decreases-loop
-loop-again c = (omega arith, omega arith, rw (add_one, pow-suc) (omega arith))
+loop-again c = (omega arith, omega arith, rw (add-one, pow-suc) (omega arith))
 
 returns : tie.Need-returns invariant-loop decreases-loop
 returns c =

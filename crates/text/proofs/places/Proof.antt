@@ -1,7 +1,7 @@
 use Prim.Native.Nat.{ℕ, ◌-◌, ◌*◌, ◌^◌, ◌≤◌, ◌<◌}
 use mathlib.Core.Path.{◌≡◌, refl, sym, ap, ◌∙◌}
 use native.Mathlib.Nat.{pow-suc, pow-le-pow_right}
-use native.Mathlib.Numerals.{add_one}
+use native.Mathlib.Numerals.{add-one}
 use native.Mathlib.Omega.{arith}
 use borrow.Author.Rules.{rules}
 use Rattle.text.proofs.Decimals.{decimal_long}
@@ -30,7 +30,7 @@ mul-limit c =
 loop-again : tie.Need-loop-preserved invariant-loop decreases-loop
 loop-again c =
     let l = c.before.before.loop in
-    (omega arith, omega arith, rw (add_one, pow-suc) (omega arith), λ h. omega arith)
+    (omega arith, omega arith, rw (add-one, pow-suc) (omega arith), λ h. omega arith)
 
 -- past the loop the limit is 10 ^ 19
 at_end : (k limit : ℕ) → k ≤ 19 → 19 ≤ k → limit ≡ 10 ^ k → limit ≡ 10 ^ 19

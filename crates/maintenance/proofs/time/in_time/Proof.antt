@@ -1,7 +1,7 @@
 use Prim.Native.Nat.{◌+◌, ◌-◌, ◌≤◌}
 use mathlib.Core.Path.{◌≡◌, refl, sym, ◌∙◌}
 use mathlib.Core.Bool.{◌||◌}
-use native.Mathlib.Numerals.{add_one}
+use native.Mathlib.Numerals.{add-one}
 use native.Mathlib.Omega.{arith}
 use lib.IntN.{pos}
 use lib.ListN.{length, get_or, drop, drop_of_length-le}
@@ -33,7 +33,7 @@ read-or-later c =
     let s = c.before.before.before.before in
     let l = c.before.before.before.loop in
     let e = get_or s.args.list.now l.i (pos 0) in
-    rw (c.serves.ensures, to_z-of_z w16 e (record { sfits = c.before.serves-arg.given }), add_one)
+    rw (c.serves.ensures, to_z-of_z w16 e (record { sfits = c.before.serves-arg.given }), add-one)
     (l.invariant.1 ∙ rw (drop-cons s.args.list.now l.i (pos 0) c.before.before.loop-test.true) refl)
 
 returns : tie.Need-returns invariant-loop decreases-loop
