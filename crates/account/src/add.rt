@@ -15,7 +15,7 @@ use sums::Sums;
 use tool06::{Figures, Judged};
 
 // The answer, and the account after it: an enum cannot hold the account's arrays.
-#[derive(Drop)]
+#[derive(Clone, Copy)]
 pub struct Added {
     pub answer: Judged,
     pub account: Account,

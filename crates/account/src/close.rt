@@ -7,14 +7,14 @@ use crate::Account;
 use refusals::Refusal;
 use tonnes::{in_tonnes, whole_tonnes};
 
-#[derive(Drop)]
+#[derive(Clone, Copy)]
 pub enum Closed {
     Tonnes(u64),
     Refused(Refusal),
 }
 
 // Methane fed and CO2 equivalent emitted, in tonnes.
-#[derive(Drop)]
+#[derive(Clone, Copy)]
 pub struct Point {
     pub fed: f64,
     pub co2e: f64,

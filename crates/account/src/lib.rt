@@ -15,7 +15,7 @@ use tool06::Figures;
 
 // The sums over the minutes accepted so far, the minutes under each rule, and the same sums by month.
 // No other crate can make one or change one but by the calls: the fields are read by methods.
-#[derive(Drop)]
+#[derive(Clone, Copy)]
 pub struct Account {
     site: Site,
     maintenance: Maintenance,

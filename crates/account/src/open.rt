@@ -10,7 +10,7 @@ use sums::Sums;
 use tool06::Figures;
 
 // The verdict, and the account beside it: an enum cannot hold the account's arrays.
-#[derive(Drop)]
+#[derive(Clone, Copy)]
 pub struct Opened {
     pub verdict: Verdict,
     pub account: Account,

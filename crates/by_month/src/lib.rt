@@ -9,13 +9,13 @@ use rows::MONTHS;
 use sums::Sums;
 
 // The sums of a month's minutes, and CO2 equivalent of what they emitted, in mg.
-#[derive(Drop)]
+#[derive(Clone, Copy)]
 pub struct Row {
     pub sums: Sums,
     pub co2e: u64,
 }
 
-#[derive(Drop)]
+#[derive(Clone, Copy)]
 pub enum Asked {
     Is(Row),
     Refused(Refusal),

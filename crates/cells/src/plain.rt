@@ -6,7 +6,7 @@ ghost use Rattle.cells.specs.scaffold.Plain.{usual, is_mark_beside, DecimalsAt, 
 use words::{is_digit, units};
 
 // Found where nothing but a number stands up to the separator or the line's end, which is stop; else nothing is said.
-#[derive(Drop)]
+#[derive(Clone, Copy)]
 pub(crate) struct Found {
     pub found: bool,
     pub value: u64,

@@ -25,7 +25,7 @@ const SEMICOLON: u8 = 59;
 const MOST: u32 = 4_294_967_295;
 
 // What a cell says, and the place of its separator or of the line's end.
-#[derive(Drop)]
+#[derive(Clone, Copy)]
 pub(crate) struct Cell {
     pub said: u64,
     pub stop: usize,

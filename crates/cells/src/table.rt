@@ -13,7 +13,7 @@ use quantities::{NO_COLUMN, QUANTITIES, first_faulty, minute_in};
 const CELLS: usize = 15;
 
 // Wrong says which quantity; More: something stands behind the last column.
-#[derive(Drop)]
+#[derive(Clone, Copy)]
 pub enum Row {
     Blank,
     More,

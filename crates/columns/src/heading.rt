@@ -13,7 +13,7 @@ const FLAME: usize = 1;
 const LITRES: usize = 3;
 
 // Unknown and Twice say which field, from 0; Missing says which quantity.
-#[derive(Drop)]
+#[derive(Clone, Copy)]
 pub enum Head {
     Fine,
     Unknown(usize),
@@ -23,7 +23,7 @@ pub enum Head {
 }
 
 // How the table is laid out: its separator, how many fields are named, and the column of each.
-#[derive(Drop)]
+#[derive(Clone, Copy)]
 pub struct Headed {
     pub head: Head,
     pub sep: u8,

@@ -3,7 +3,7 @@ ghost use Rattle.std.specs.Prelude.{◌≡◌, ◌*◌, ◌^◌, ◌≤◌, leng
 ghost use Rattle.decimals.specs.Decimals.{is_mark, at_most, decimals_on, whole_on, decimal_of, negated, plain, signed_of};
 ghost use Rattle.decimals.specs.scaffold.Most.{UpTo};
 
-#[derive(Drop)]
+#[derive(Clone, Copy)]
 pub enum Parsed {
     Number(u32),
     Empty,
@@ -11,7 +11,7 @@ pub enum Parsed {
 }
 
 // The same with a sign, as a temperature has it.
-#[derive(Drop)]
+#[derive(Clone, Copy)]
 pub enum Signed {
     Number(i16),
     Empty,

@@ -12,7 +12,7 @@ const TOO_LONG: usize = 18_446_744_073_709_551_615;
 const FULL: usize = 65_536;
 
 // The desk, how much of a line was heard that has no end yet, how much of the answers waits to be printed, and whether others could not be and are lost.
-#[derive(Drop)]
+#[derive(Clone, Copy)]
 pub(crate) struct Heard {
     pub desk: Desk,
     pub length: usize,
@@ -21,7 +21,7 @@ pub(crate) struct Heard {
 }
 
 // How many bytes of the input came, none at its end, and whether they could be read.
-#[derive(Drop)]
+#[derive(Clone, Copy)]
 pub(crate) struct More {
     pub count: usize,
     pub well: bool,
@@ -66,7 +66,7 @@ pub(crate) fn print(out: &[u8], at: usize) -> bool {
 }
 
 // How much of the answers still waits, and whether the others were lost.
-#[derive(Drop)]
+#[derive(Clone, Copy)]
 struct Waiting {
     at: usize,
     lost: bool,

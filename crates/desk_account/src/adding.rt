@@ -42,7 +42,7 @@ pub fn add(desk: Desk, record: &[u8], out: &mut [u8], at: usize) -> Turn
 }
 
 // How often a record was taken, and the refusal that ended it, if one did.
-#[derive(Drop)]
+#[derive(Clone, Copy)]
 struct Filled {
     account: Account,
     taken: u32,

@@ -18,7 +18,7 @@ const DAYS: usize = 65;
 // The day's place in the row of `open`, whose form is `open HEX [days DAY ..]`.
 const DAY: usize = 3;
 
-#[derive(Drop)]
+#[derive(Clone, Copy)]
 struct Listed {
     days: [i16; 65],
     count: usize,

@@ -3,14 +3,14 @@ use account::Account;
 use answers::put;
 
 // One account is open, or none is, and then the account counts for nothing.
-#[derive(Drop)]
+#[derive(Clone, Copy)]
 pub struct Desk {
     pub open: bool,
     pub account: Account,
 }
 
 // The desk after a call, and the place after its answer.
-#[derive(Drop)]
+#[derive(Clone, Copy)]
 pub struct Turn {
     pub desk: Desk,
     pub at: usize,

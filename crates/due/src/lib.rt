@@ -12,7 +12,7 @@ use site::Site;
 use tool06::Judged;
 
 // The flare's site and its maintenance list, and the minute of the year that is expected.
-#[derive(Drop)]
+#[derive(Clone, Copy)]
 pub struct Due {
     pub site: Site,
     pub maintenance: Maintenance,

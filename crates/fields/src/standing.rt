@@ -6,7 +6,7 @@ ghost use Rattle.fields.specs.scaffold.Places.{Stands, FieldAt};
 const QUOTE: u8 = 34;
 
 // A field's text, without the quotes around it, and the place of its separator or of the line's end.
-#[derive(Drop)]
+#[derive(Clone, Copy)]
 pub struct Field {
     pub start: usize,
     pub end: usize,
@@ -14,7 +14,7 @@ pub struct Field {
 }
 
 // From start up to end.
-#[derive(Drop)]
+#[derive(Clone, Copy)]
 struct Bounds {
     start: usize,
     end: usize,

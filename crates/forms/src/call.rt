@@ -62,7 +62,7 @@ pub const SINGLE: usize = 15;
 pub const NONE: usize = 16;
 
 // A call, and where its row stands.
-#[derive(Drop)]
+#[derive(Clone, Copy)]
 pub struct Call {
     pub number: usize,
     pub(crate) from: usize,

@@ -21,7 +21,7 @@ pub const SECOND_AT: usize = 160_000;
 const MOST: usize = 15;
 
 // Whether the words are as the call's form has them: a word is missing or left over, or the one at a place of the call's row is not of its kind.
-#[derive(Drop)]
+#[derive(Clone, Copy)]
 pub enum Fit {
     Fits,
     Form,
@@ -29,14 +29,14 @@ pub enum Fit {
 }
 
 // Numbers as they are, in two's complement where they have a sign, and for bytes how many there are; and where the last word ends.
-#[derive(Drop)]
+#[derive(Clone, Copy)]
 pub struct Taken {
     pub values: [usize; 15],
     pub end: usize,
     pub fit: Fit,
 }
 
-#[derive(Drop)]
+#[derive(Clone, Copy)]
 enum Value {
     Is(usize),
     Wrong,

@@ -19,7 +19,7 @@ use writing::write_minute;
 pub const LINES: usize = 400;
 
 // Why a row was not added; None where all were.
-#[derive(Drop)]
+#[derive(Clone, Copy)]
 pub enum Stop {
     None,
     More,
@@ -28,7 +28,7 @@ pub enum Stop {
 }
 
 // The account after the rows, how many lines and bytes of the text were read, how many bytes stand in out and in records, and why the next row was not added.
-#[derive(Drop)]
+#[derive(Clone, Copy)]
 pub struct Took {
     pub account: Account,
     pub lines: usize,

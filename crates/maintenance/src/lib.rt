@@ -1,4 +1,6 @@
 // The maintenance list: days relative to 1 January, which is day 0.
+#![tactic(auto)]
+
 mod list;
 mod time;
 

@@ -4,7 +4,7 @@ ghost use Rattle.std.specs.Int.Signed.{lt_z, le_z};
 ghost use Rattle.maintenance.specs.Days.{list_wrong, maintenance_of};
 
 // The days are the first `listed` places.
-#[derive(Drop)]
+#[derive(Clone, Copy)]
 pub struct Maintenance {
     pub days: [i16; Maintenance::MOST],
     pub listed: usize,

@@ -2,7 +2,7 @@
 ghost use Rattle.std.specs.Prelude.{◌≡◌};
 ghost use Rattle.minute.specs.Rules.{fraction_sum, composition_wrong, methane_wrong};
 
-#[derive(Drop)]
+#[derive(Clone, Copy)]
 pub struct Gas {
     pub ch4: u32,
     pub co: u32,

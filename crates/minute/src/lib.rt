@@ -9,14 +9,14 @@ pub use gas::Gas;
 use refusals::{Refusal, Verdict};
 
 // Of the exhaust: oxygen in ppm, methane in mg/m3.
-#[derive(Drop)]
+#[derive(Clone, Copy)]
 pub struct Readings {
     pub oxygen: u32,
     pub methane: u32,
 }
 
 // The number is the minute of the year, from 0; the temperature is in tenths of a degree Celsius.
-#[derive(Drop)]
+#[derive(Clone, Copy)]
 pub struct Minute {
     pub number: u32,
     pub flags: u8,
@@ -26,7 +26,7 @@ pub struct Minute {
     pub exhaust: Readings,
 }
 
-#[derive(Drop)]
+#[derive(Clone, Copy)]
 pub enum MinuteRead {
     Fields(Minute),
     Refused(Refusal),

@@ -6,7 +6,7 @@ use site::Site;
 const DECEMBER: u32 = 31;
 
 // The month from 1, and the day of it from 0.
-#[derive(Drop)]
+#[derive(Clone, Copy)]
 struct Date {
     month: u32,
     day: u32,

@@ -15,7 +15,7 @@ use refusals::{Refusal, Verdict};
 use site::{Site, SiteRead};
 
 // With More the account takes minutes; of the one beside another outcome nothing is said.
-#[derive(Drop)]
+#[derive(Clone, Copy)]
 pub struct Begun {
     pub outcome: Outcome,
     pub account: Account,

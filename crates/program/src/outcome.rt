@@ -9,7 +9,7 @@ use site::Site;
 use tool06::Figures;
 
 // More: minutes may follow.
-#[derive(Drop)]
+#[derive(Clone, Copy)]
 pub enum Outcome {
     More,
     Well,
@@ -34,7 +34,7 @@ pub fn tell(outcome: Outcome) {
 
 // How the reading of the minutes ended, without the account: one that is handed on whole keeps all of its rows in the loop.
 // Well: the last lines are printed. The verdict is that of the last record, and the bytes are those of the last buffer.
-#[derive(Drop)]
+#[derive(Clone, Copy)]
 pub struct Ended {
     outcome: Outcome,
     verdict: Verdict,

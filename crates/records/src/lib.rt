@@ -1,4 +1,6 @@
 // The house form: a two-byte length, which counts the bytes after it, then a version byte, then the fields.
+#![tactic(auto)]
+
 ghost use Rattle.std.specs.Prelude.{◌≡◌, [], ◌∷◌};
 ghost use Rattle.exact.specs.Bytes.{bytes_of, put};
 ghost use Rattle.refusals.specs.Tables.{first_of};

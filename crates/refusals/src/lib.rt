@@ -1,4 +1,5 @@
 // Why a call refuses, and the first of several reasons.
+#![tactic(auto)]
 mod refusal;
 mod verdict;
 

@@ -4,7 +4,7 @@ ghost use Rattle.refusals.specs.Tables.{also, followed_by};
 
 use crate::refusal::Refusal;
 
-#[derive(Drop)]
+#[derive(Clone, Copy)]
 pub enum Verdict {
     Fine,
     Refuse(Refusal),

@@ -1,4 +1,6 @@
 // The twelve rows of a year, one a month, each of the same numbers as an account's sums.
+#![tactic(auto)]
+
 ghost use Rattle.std.specs.Prelude.{◌≡◌, ℕ, ◌+◌, ◌≤◌, ◌<◌, eqb, length, get_or};
 ghost use Rattle.sums.specs.Sums.{no_sums, ◌⊞◌};
 ghost use Rattle.sums.specs.scaffold.Fits.{Fits};

@@ -10,7 +10,7 @@ use minute::Minute;
 use site::{Flows, Site, Temperatures};
 use tool06::{Class, Figures, Loss, Ruling};
 
-#[derive(Drop)]
+#[derive(Clone, Copy)]
 pub(crate) enum Found {
     Nothing,
     Rule(Ruling),

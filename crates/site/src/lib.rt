@@ -6,21 +6,21 @@ ghost use Rattle.site.specs.Rules.{temperatures_wrong, flows_wrong, is_open, yea
 use refusals::{Refusal, Verdict};
 
 // Tenths of a degree Celsius.
-#[derive(Drop)]
+#[derive(Clone, Copy)]
 pub struct Temperatures {
     pub lowest: i16,
     pub highest: i16,
 }
 
 // Litres a minute.
-#[derive(Drop)]
+#[derive(Clone, Copy)]
 pub struct Flows {
     pub lowest: u32,
     pub highest: u32,
 }
 
 // Height and diameter are in mm; days is how many are allowed between maintenance.
-#[derive(Drop)]
+#[derive(Clone, Copy)]
 pub struct Site {
     pub method: u8,
     pub year: u16,
@@ -32,7 +32,7 @@ pub struct Site {
     pub days: u16,
 }
 
-#[derive(Drop)]
+#[derive(Clone, Copy)]
 pub enum SiteRead {
     Fields(Site),
     Refused(Refusal),

@@ -7,7 +7,7 @@ const BREAK: u8 = 10;
 const RETURN: u8 = 13;
 
 // Where a line ends, without the end itself, and where the next one starts.
-#[derive(Drop)]
+#[derive(Clone, Copy)]
 pub(crate) struct Line {
     pub stop: usize,
     pub next: usize,
@@ -67,7 +67,7 @@ pub(crate) fn line_at(text: &[u8], at: usize) -> Line
 }
 
 // Where a line stands.
-#[derive(Drop)]
+#[derive(Clone, Copy)]
 pub struct Place {
     pub start: usize,
     pub stop: usize,

@@ -16,14 +16,14 @@ pub(crate) const NAMES: usize = 11;
 pub(crate) const NO_NAME: usize = 12;
 
 // Where a word stands.
-#[derive(Drop)]
+#[derive(Clone, Copy)]
 struct Word {
     start: usize,
     end: usize,
 }
 
 // The number of a line's name, and where its value stands.
-#[derive(Drop)]
+#[derive(Clone, Copy)]
 pub(crate) struct Parts {
     pub name: usize,
     pub start: usize,

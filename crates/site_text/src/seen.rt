@@ -21,7 +21,7 @@ const MAINTAINED: usize = 10;
 const UNKNOWN: usize = 11;
 
 // The first fault, if there is one, with its line and the number of its name; the values, and the line of each, which is 0 where it has none; and the days of maintenance, the first `count` places.
-#[derive(Drop)]
+#[derive(Clone, Copy)]
 pub(crate) struct Seen {
     pub fault: u8,
     pub line: usize,

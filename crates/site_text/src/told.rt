@@ -8,7 +8,7 @@ use crate::seen::{MOST_DAYS, Seen, VALUES, seen_in, year_in};
 use site::{Flows, Site, Temperatures};
 
 // The site and its days of maintenance, the first `count` places, where there is no fault.
-#[derive(Drop)]
+#[derive(Clone, Copy)]
 pub struct SiteTold {
     pub fault: u8,
     pub line: usize,

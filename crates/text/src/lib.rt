@@ -1,4 +1,6 @@
 // Text and numbers put into a buffer, each after the other: a call answers the place after what it put.
+#![tactic(auto)]
+
 ghost use Rattle.std.specs.Prelude.{◌≡◌, ◌+◌, ◌≤◌, length};
 ghost use Rattle.exact.specs.Bytes.{put};
 ghost use Rattle.text.specs.Places.{PutFrom};

@@ -1,4 +1,6 @@
 // Mg in tonnes.
+#![tactic(auto)]
+
 ghost use Rattle.std.specs.Prelude.{◌≡◌, ◌^◌, ◌<◌};
 ghost use Rattle.exact.specs.Rounding.{ceil_div};
 ghost use Rattle.tonnes.specs.Tonnes.{in_tonnes};

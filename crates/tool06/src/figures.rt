@@ -2,7 +2,7 @@
 use refusals::Refusal;
 
 // The rule by its number, and methane in mg.
-#[derive(Drop)]
+#[derive(Clone, Copy)]
 pub struct Figures {
     pub rule: u8,
     pub fed: u64,
@@ -10,7 +10,7 @@ pub struct Figures {
     pub destroyed: u64,
 }
 
-#[derive(Drop)]
+#[derive(Clone, Copy)]
 pub enum Judged {
     Accepted(Figures),
     Refused(Refusal),

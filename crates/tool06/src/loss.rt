@@ -1,5 +1,5 @@
 // What a rule takes for lost of the methane fed.
-#[derive(Drop)]
+#[derive(Clone, Copy)]
 pub enum Loss {
     // So many millionths of it.
     Share(u64),
@@ -8,7 +8,7 @@ pub enum Loss {
 }
 
 // A rule by its number, and what it takes for lost.
-#[derive(Drop)]
+#[derive(Clone, Copy)]
 pub struct Ruling {
     pub number: u8,
     pub loss: Loss,

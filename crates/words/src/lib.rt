@@ -1,4 +1,6 @@
 // The words of a line of text, which stand one space apart: numbers in decimal, bytes in hexadecimal.
+#![tactic(auto)]
+
 mod hex;
 mod number;
 mod place;

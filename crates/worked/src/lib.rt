@@ -8,7 +8,7 @@ use site::{Flows, Site, Temperatures};
 use tool06::{Figures, Judged};
 
 // A minute at a site, with maintenance in time, and what it answers.
-#[derive(Drop)]
+#[derive(Clone, Copy)]
 pub struct Example {
     pub site: Site,
     pub minute: Minute,

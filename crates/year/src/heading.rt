@@ -14,7 +14,7 @@ const COMMA: u8 = 44;
 const SEMICOLON: u8 = 59;
 
 // With More the table is laid out so, and its rows start at a place of the text, of which so much is there, with a line of this number.
-#[derive(Drop)]
+#[derive(Clone, Copy)]
 pub(crate) struct Headed {
     pub outcome: Outcome,
     pub sep: u8,
@@ -65,7 +65,7 @@ fn is_blank(row: &[u8]) -> bool {
 }
 
 // Where the first row starts, and the number of its line.
-#[derive(Drop)]
+#[derive(Clone, Copy)]
 struct Start {
     at: usize,
     line: u64,

@@ -12,7 +12,7 @@ use site_text::{SiteTold, site_told};
 use writing::write_site;
 
 // With More the account takes minutes; of the one beside another outcome nothing is said.
-#[derive(Drop)]
+#[derive(Clone, Copy)]
 pub(crate) struct Begun {
     pub outcome: Outcome,
     pub account: Account,

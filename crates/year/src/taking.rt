@@ -10,7 +10,7 @@ use intake::{Took, take_in};
 use program::Outcome;
 
 // The account after the rows, how many lines and bytes of them were read, and with More that others may follow.
-#[derive(Drop)]
+#[derive(Clone, Copy)]
 pub(crate) struct Turned {
     pub outcome: Outcome,
     pub account: Account,
