@@ -1,6 +1,9 @@
 use native.Mathlib.Omega.{arith}
 use borrow.Author.Rules.{rules}
-use Rattle.std.proofs.Common.{◌≡◌}
+use Rattle.std.proofs.Common.{◌≡◌, get_or}
+use lib.IntN.{pos}
+use mir.Syntax.{w16}
+use mir.ValLaws.{to_z-of_z}
 use Rattle.maintenance.proofs.Kept.{one_more, all_kept}
 use Rattle.maintenance.proofs.list.Maintenance.of.Goals as goal
 
@@ -8,7 +11,7 @@ pub loop-i-preserved : goal.loop-i-preserved
 loop-i-preserved c =
     let l = c.loop-i in
     let list = c.args.list.now in
-    (search rules, l.invariant.1, rw l.invariant.2 (one_more list l.i (omega arith) (omega arith)))
+    (search rules, l.invariant.1, rw (l.invariant.2, to_z-of_z w16 (get_or list l.i (pos 0)) (record { sfits = c.days-1.given })) (one_more list l.i (omega arith) (omega arith)))
 
 pub returns : goal.returns
 returns c =
