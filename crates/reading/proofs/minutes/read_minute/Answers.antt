@@ -12,22 +12,20 @@ use Rattle.reading.proofs.minutes.read_minute.Goals.{After-alone}
 came : (v : After-alone) {w : Verdict} → v.alone.result ≡ w → answered Fields Refused v.minute_in-minute.result w ≡ read_minute v.args.bytes.now
 unfolding read_minute
 came v {w} e =
-    let t = v.before.before in
-    let b = t.args.bytes.now in
+    let b = v.args.bytes.now in
     by_fields Fields Refused alone_lines (minute_of b) (minute_head_lines b) v.minute_in-minute.result w
-    (sym t.head.ensures ∙ t.in-Fine.is)
+    (sym v.head.ensures ∙ v.in-Fine.is)
     v.minute_in-minute.ensures
     (sym e ∙ v.alone.ensures)
 
 pub returns-in-Refuse : goal.returns-in-Refuse
 unfolding read_minute
 returns-in-Refuse c =
-    let h = c.before in
-    let b = h.args.bytes.now in
-    by_head Fields Refused alone_lines (minute_of b) (minute_head_lines b) (sym h.head.ensures ∙ c.in-Refuse.is)
+    let b = c.args.bytes.now in
+    by_head Fields Refused alone_lines (minute_of b) (minute_head_lines b) (sym c.head.ensures ∙ c.in-Refuse.is)
 
 pub returns-in-Fine-alone : goal.returns-in-Fine-alone
-returns-in-Fine-alone c = came c.before c.in-Fine-alone.is
+returns-in-Fine-alone c = came (goal.at.returns-in-Fine-alone c).After-alone c.in-Fine-alone.is
 
 pub returns-in-Refuse-alone : goal.returns-in-Refuse-alone
-returns-in-Refuse-alone c = came c.before c.in-Refuse-alone.is
+returns-in-Refuse-alone c = came (goal.at.returns-in-Refuse-alone c).After-alone c.in-Refuse-alone.is

@@ -12,22 +12,20 @@ use Rattle.reading.proofs.sites.read_site.Goals.{After-verdict}
 came : (v : After-verdict) {w : Verdict} → v.verdict.result ≡ w → answered Fields Refused v.site_in-site.result w ≡ read_site v.args.bytes.now
 unfolding read_site
 came v {w} e =
-    let t = v.before.before in
-    let b = t.args.bytes.now in
+    let b = v.args.bytes.now in
     by_fields Fields Refused site_lines (site_of b) (site_head_lines b) v.site_in-site.result w
-    (sym t.head.ensures ∙ t.in-Fine.is)
+    (sym v.head.ensures ∙ v.in-Fine.is)
     v.site_in-site.ensures
     (sym e ∙ v.verdict.ensures)
 
 pub returns-in-Refuse : goal.returns-in-Refuse
 unfolding read_site
 returns-in-Refuse c =
-    let h = c.before in
-    let b = h.args.bytes.now in
-    by_head Fields Refused site_lines (site_of b) (site_head_lines b) (sym h.head.ensures ∙ c.in-Refuse.is)
+    let b = c.args.bytes.now in
+    by_head Fields Refused site_lines (site_of b) (site_head_lines b) (sym c.head.ensures ∙ c.in-Refuse.is)
 
 pub returns-in-Fine-verdict : goal.returns-in-Fine-verdict
-returns-in-Fine-verdict c = came c.before c.in-Fine-verdict.is
+returns-in-Fine-verdict c = came (goal.at.returns-in-Fine-verdict c).After-verdict c.in-Fine-verdict.is
 
 pub returns-in-Refuse-verdict : goal.returns-in-Refuse-verdict
-returns-in-Refuse-verdict c = came c.before c.in-Refuse-verdict.is
+returns-in-Refuse-verdict c = came (goal.at.returns-in-Refuse-verdict c).After-verdict c.in-Refuse-verdict.is
