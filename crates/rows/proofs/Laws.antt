@@ -9,10 +9,10 @@ use lib.Dec.{eqb}
 use lib.ListN.{length, get_or, set, replicate, length-set}
 use lib.Seq.{get_or-set_same, get_or-set_other}
 use Rattle.exact.proofs.Anew.{from, anew}
-use Rattle.sums.specs.Sums.{no_sums, ◌⊞◌, total}
+use Rattle.sums.specs.Sums.{no_sums, ◌⊞◌}
 use Rattle.sums.specs.Within.{Within}
 use Rattle.sums.specs.declared.Sums.{Sums}
-use Rattle.sums.proofs.Laws.{⊞-none, ⊞-assoc, ⊞-comm, none-⊞, none_within, plus_within}
+use Rattle.sums.proofs.Laws.{⊞-none, ⊞-assoc, ⊞-comm, none-⊞, plus_within}
 use Rattle.rows.specs.Rows.{no_rows, row_of, with_in, together}
 use Rattle.rows.specs.scaffold.Only.{only}
 

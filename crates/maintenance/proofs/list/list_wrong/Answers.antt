@@ -1,4 +1,4 @@
-use Rattle.std.proofs.Common.{◌≡◌, ◌+◌, ◌∙◌, sym, refl, rules, arith, length, get_or, drop, drop_of_length-le}
+use Rattle.std.proofs.Common.{◌≡◌, ◌+◌, ◌∙◌, sym, refl, rules, arith, get_or, drop, drop_of_length-le}
 use mathlib.Core.Bool.{◌||◌, ◌&&◌, not}
 use lib.IntN.{ℤ, pos}
 use lib.Signed.{lt_z, le_z}

@@ -8,7 +8,7 @@ use lib.Seq.{drop-cons}
 use borrow.Author.Rules.{rules}
 use mir.Syntax.{w16}
 use mir.ValLaws.{to_z-of_z}
-use Rattle.maintenance.specs.Days.{serves, in_time}
+use Rattle.maintenance.specs.Days.{in_time}
 use Rattle.maintenance.proofs.time.in_time.Goals as goal
 use Rattle.maintenance.proofs.time.in_time.Goals.{After-serves}
 
