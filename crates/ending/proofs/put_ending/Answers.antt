@@ -12,5 +12,5 @@ returns c =
     let short = sheet_uncut.total account in
     let last = sheet_uncut.year account in
     let first = whole (omega arith) total.ensures in
-    let then = whole (omega (arith, short, first.place, total.auto.0)) year.ensures in
+    let then = whole (omega (arith, short, first.place, total.auto.out)) year.ensures in
     record { put_from = onward first then; within = omega (arith, short, last, first.place, then.place) }
