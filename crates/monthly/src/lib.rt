@@ -1,4 +1,6 @@
 // The text of the program `months`: a line for each month, the refusal that ended the reading, and the total and the year.
+#![tactic(auto)]
+
 ghost use Rattle.std.specs.Prelude.{◌≡◌, ◌≤◌, length};
 ghost use Rattle.exact.specs.Bytes.{put};
 ghost use Rattle.account.specs.Kept.{Kept};
