@@ -1,4 +1,6 @@
 // Takes lines of text from standard input, each a call of the library, and answers each with a line on standard output.
+#![tactic(auto)]
+
 mod act;
 mod answer;
 mod checking;
@@ -42,7 +44,13 @@ fn nobody() -> Desk
 }
 
 // Hears the input to its end, and prints the answers before it waits for more. Answers whether all went well.
-fn talk(chunk: &mut [u8], line: &mut [u8], bytes: &mut [u8], out: &mut [u8]) -> bool {
+fn talk(
+    rt: &HostRuntime,
+    chunk: &mut [u8],
+    line: &mut [u8],
+    bytes: &mut [u8],
+    out: &mut [u8],
+) -> bool {
     let mut heard = Heard {
         desk: nobody(),
         length: 0,
@@ -50,14 +58,14 @@ fn talk(chunk: &mut [u8], line: &mut [u8], bytes: &mut [u8], out: &mut [u8]) -> 
         lost: false,
     };
     for _ in 0..CHUNKS {
-        let more = read_more(chunk);
+        let more = read_more(rt, chunk);
         let count = more.count;
         if count == 0 {
-            return end(more.well, heard.desk, heard.length, line, bytes, out);
+            return end(rt, more.well, heard.desk, heard.length, line, bytes, out);
         }
         let came = part(chunk, 0, count);
-        heard = hear(heard.desk, heard.length, came, line, bytes, out);
-        let printed = print(out, heard.at);
+        heard = hear(rt, heard.desk, heard.length, came, line, bytes, out);
+        let printed = print(rt, out, heard.at);
         if !printed | heard.lost {
             return false;
         }
@@ -65,12 +73,12 @@ fn talk(chunk: &mut [u8], line: &mut [u8], bytes: &mut [u8], out: &mut [u8]) -> 
     false
 }
 
-fn main() {
-    let mut chunk = io::large_buffer();
+fn main(rt: HostRuntime) {
+    let mut chunk = [0u8; 65_536];
     let mut line = line_buffer();
     let mut bytes = line_buffer();
     let mut out = answer_buffer();
-    let well = talk(&mut chunk, &mut line, &mut bytes, &mut out);
+    let well = talk(&rt, &mut chunk, &mut line, &mut bytes, &mut out);
     if launcher::asked(b"--status") {
         launcher::tell(if well { 0 } else { 2 });
     }
