@@ -1,4 +1,6 @@
 // The minute record.
+#![tactic(auto)]
+
 mod gas;
 
 ghost use Rattle.std.specs.Prelude.{◌≡◌};

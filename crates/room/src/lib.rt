@@ -1,4 +1,6 @@
 // Whether there is room for a line in a buffer, from a place on.
+#![tactic(auto)]
+
 ghost use Rattle.std.specs.Prelude.{◌≡◌, ◌-◌, length};
 
 // How many bytes there are from a place on.

@@ -1,4 +1,6 @@
 // The site record.
+#![tactic(auto)]
+
 ghost use Rattle.std.specs.Prelude.{◌≡◌};
 ghost use Rattle.refusals.specs.Tables.{first_of};
 ghost use Rattle.site.specs.Rules.{temperatures_wrong, flows_wrong, is_open, year_minutes, site_lines};

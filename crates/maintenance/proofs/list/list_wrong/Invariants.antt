@@ -3,8 +3,6 @@ use mathlib.Core.Path.{◌≡◌}
 use mathlib.Core.Bool.{true, ◌&&◌}
 use lib.ListN.{length, drop}
 use lib.Signed.{le_z}
-use mir.Syntax.{w16}
-use mir.Val.{to_z}
 use Rattle.exact.specs.Ranges.{minus}
 use Rattle.maintenance.specs.Days.{rising_from, rising, within}
 use Rattle.maintenance.proofs.list.list_wrong.Given as goal
@@ -12,7 +10,7 @@ use Rattle.maintenance.proofs.list.list_wrong.Given as goal
 -- the days that are left decide, and the one before them is at least the day before the first allowed
 abbrev pub invariant-loop-i : goal.invariant-loop-i
 invariant-loop-i l =
-    (l.i ≤ length l.list) × (length l.list ≤ 64) × (le_z (minus 3661) (to_z w16 l.before) ≡ true) × ((rising l.list && within (minus 3660) (to_z w16 l.last) l.list) ≡ (rising_from (to_z w16 l.before) (drop l.i l.list) && within (minus 3660) (to_z w16 l.last) (drop l.i l.list)))
+    (l.i ≤ length l.list) × (length l.list ≤ 64) × (le_z (minus 3661) l.before ≡ true) × ((rising l.list && within (minus 3660) l.last l.list) ≡ (rising_from l.before (drop l.i l.list) && within (minus 3660) l.last (drop l.i l.list)))
 
 abbrev pub decreases-loop-i : goal.decreases-loop-i
 decreases-loop-i l = length l.list - l.i

@@ -1,5 +1,5 @@
 use native.Mathlib.Omega.{arith}
-use Rattle.words.proofs.Filling.{next, one_less}
+use Rattle.words.proofs.Filling.{next, one_less, none_left}
 use Rattle.words.proofs.hex.fill.Goals as goal
 
 pub bounds-word-i-in-loop-i : goal.bounds-word-i-in-loop-i
@@ -28,4 +28,4 @@ loop-i-preserved c =
     one_less t.loop-i.invariant t.loop-i-test.true x.digit_of-high.ensures y.digit_of-low.ensures p.put_byte.ensures
 
 pub returns : goal.returns
-returns c = same_length c
+returns c = none_left c.loop-i.invariant c.loop-i-test.false

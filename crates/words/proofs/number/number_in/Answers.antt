@@ -1,6 +1,5 @@
 use mathlib.Core.Path.{sym, ◌∙◌}
 use native.Mathlib.Omega.{arith}
-use borrow.Author.Tests.{not-true, not-false}
 use Rattle.words.proofs.Decimals.{spelled_much, spelled-more, spelled_not, spelled_end, of_none, of_some}
 use Rattle.words.proofs.number.number_in.Goals as goal
 
@@ -11,7 +10,7 @@ pub returns-then-not-is_digit : goal.returns-then-not-is_digit
 returns-then-not-is_digit c =
     let d = c.before in
     let l = d.before.before.before in
-    sym (spelled_not _ l.loop-i.i _ l.loop-i.sum (omega arith) (sym d.is_digit.ensures ∙ not-true _ c.if-not-is_digit.true))
+    sym (spelled_not _ l.loop-i.i _ l.loop-i.sum (omega arith) (sym d.is_digit.ensures ∙ c.if-not-is_digit.true))
     ∙ l.loop-i.invariant.1
     ∙ of_some _ _ l.if-word-eq0.false
 
@@ -21,7 +20,7 @@ returns-then-limit-sum c =
     let d = u.before.before in
     let l = d.before.before.before in
     sym (spelled_much _ _ _ c.if-limit-sum.true)
-    ∙ spelled-more _ l.loop-i.i _ l.loop-i.sum (omega arith) (sym d.is_digit.ensures ∙ not-false _ u.if-not-is_digit.false) u.units.ensures.0
+    ∙ spelled-more _ l.loop-i.i _ l.loop-i.sum (omega arith) (sym d.is_digit.ensures ∙ u.if-not-is_digit.false) u.units.ensures.0
     ∙ l.loop-i.invariant.1
     ∙ of_some _ _ l.if-word-eq0.false
 
@@ -31,7 +30,7 @@ loop-i-preserved c =
     let d = u.before.before in
     let l = d.loop-i in (
       omega arith,
-      spelled-more _ l.i _ l.sum (omega arith) (sym d.is_digit.ensures ∙ not-false _ u.if-not-is_digit.false) u.units.ensures.0
+      spelled-more _ l.i _ l.sum (omega arith) (sym d.is_digit.ensures ∙ u.if-not-is_digit.false) u.units.ensures.0
           ∙ l.invariant.1,
     )
 

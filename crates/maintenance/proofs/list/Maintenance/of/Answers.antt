@@ -1,8 +1,7 @@
-use mathlib.Core.Path.{◌≡◌}
 use native.Mathlib.Omega.{arith}
-use lib.IntN.{pos}
-use lib.ListN.{get_or}
 use borrow.Author.Rules.{rules}
+use Rattle.std.proofs.Common.{◌≡◌, get_or}
+use lib.IntN.{pos}
 use mir.Syntax.{w16}
 use mir.ValLaws.{to_z-of_z}
 use Rattle.maintenance.proofs.Kept.{one_more, all_kept}
@@ -17,5 +16,5 @@ loop-i-preserved c =
 pub returns : goal.returns
 returns c =
     let l = c.loop-i in
-    let i-is : l.i ≡ c.if-listed-le-MOST.auto = omega arith in
-    rw (l.invariant.2, i-is) (all_kept c.args.list.now c.if-listed-le-MOST.auto l.invariant.1)
+    let i_is : l.i ≡ c.if-listed-le-MOST.kept = omega arith in
+    rw (l.invariant.2, i_is) (all_kept c.args.list.now c.if-listed-le-MOST.kept l.invariant.1)

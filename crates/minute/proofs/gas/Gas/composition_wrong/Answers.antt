@@ -5,9 +5,7 @@ use lib.Dec.{eqb}
 use borrow.Author.Tests.{le-ltb, eqb-true}
 use Rattle.minute.specs.Rules.{fraction_sum, fraction_over, composition_wrong}
 use Rattle.minute.specs.declared.gas.Gas.{Gas}
-use borrow.Author.Rules.{rules}
-use Rattle.minute.proofs.gas.Gas.composition_wrong.Statement.{statement}
-use Rattle.minute.proofs.gas.Gas.composition_wrong.Tie as tie
+use Rattle.minute.proofs.gas.Gas.composition_wrong.Goals as goal
 
 -- of fractions that add up to the whole none is over it
 none_over : (g : Gas) → fraction_sum g ≡ 1000000 → fraction_over g ≡ false
@@ -29,12 +27,9 @@ beside false whole e = refl
 beside true false e = refl
 beside true true e = sym (e refl)
 
-returns : tie.Need-returns
+pub returns : goal.returns
 unfolding composition_wrong
 returns c =
-    let g = c.before.args.self in
+    let g = c.args.self in
     rw c.total.ensures
     (beside (fraction_over g) (eqb (fraction_sum g) 1000000) (λ e. none_over g (eqb-true (fraction_sum g) 1000000 e)))
-
-pub composition-wrong-spec : {M : Type 1} → statement M
-composition-wrong-spec = tie.close (tie.spec (search rules) (search rules) returns)
