@@ -1,11 +1,10 @@
 // Lines come in chunks, which end anywhere.
-ghost use Rattle.std.specs.Prelude.{◌≤◌, length};
 ghost use Rattle.desk_account.specs.Desk.{Ready};
 
 use crate::answer::answer;
 use answers::{LINE_END, end_of};
 use desk_account::turn::Desk;
-use std::io::{Read, Write};
+use std::io::Read;
 
 // What is heard of a line that is longer than its buffer: more than any buffer has.
 const TOO_LONG: usize = 18_446_744_073_709_551_615;
@@ -30,8 +29,8 @@ pub(crate) struct More {
 }
 
 // Waits for more of the input.
-pub(crate) fn read_more(rt: &HostRuntime, chunk: &mut [u8]) -> More {
-    match rt.stdin().read(chunk) {
+pub(crate) fn read_more(rt: &impl Eprint, input: &mut impl Read, chunk: &mut [u8]) -> More {
+    match input.read(chunk) {
         Ok(count) => More { count, well: true },
         Err(_) => {
             notes::unread(rt);
@@ -58,33 +57,10 @@ fn keep(line: &mut [u8], heard: usize, more: &[u8]) -> usize {
     heard
 }
 
-// How many bytes one write took, none where it failed.
-fn write_some(rt: &HostRuntime, words: &[u8]) -> usize
-    ensures { result ≤ length words.now }
-{
-    match rt.stdout().write(words) {
-        Ok(count) => count,
-        Err(_) => 0,
-    }
-}
-
-// Writes all of the words, or stops at the first write that takes nothing.
-fn write_all(rt: &HostRuntime, words: &[u8]) -> bool {
-    let mut done: usize = 0;
-    while done < words.len() {
-        let count = write_some(rt, &words[done..]);
-        if count == 0 {
-            return false;
-        }
-        done = done + count;
-    }
-    true
-}
-
 // Prints the answers, or says that it could not.
-pub(crate) fn print(rt: &HostRuntime, out: &[u8], at: usize) -> bool {
+pub(crate) fn print(rt: &(impl Print + Eprint), out: &[u8], at: usize) -> bool {
     if at <= out.len() {
-        if write_all(rt, &out[0..at]) {
+        if rt.write_all(&out[0..at]).is_ok() {
             return true;
         }
     }
@@ -100,7 +76,7 @@ struct Waiting {
 }
 
 // Prints the answers when there are many.
-fn make_room(rt: &HostRuntime, out: &[u8], at: usize) -> Waiting {
+fn make_room(rt: &(impl Print + Eprint), out: &[u8], at: usize) -> Waiting {
     if at <= FULL {
         Waiting { at, lost: false }
     } else {
@@ -112,7 +88,13 @@ fn make_room(rt: &HostRuntime, out: &[u8], at: usize) -> Waiting {
 }
 
 // A line's end: it is answered, and the next begins.
-fn end_line(rt: &HostRuntime, heard: Heard, line: &[u8], bytes: &mut [u8], out: &mut [u8]) -> Heard
+fn end_line(
+    rt: &(impl Print + Eprint),
+    heard: Heard,
+    line: &[u8],
+    bytes: &mut [u8],
+    out: &mut [u8],
+) -> Heard
     requires { Ready heard.desk }
     ensures { Ready result.desk }
 {
@@ -129,7 +111,7 @@ fn end_line(rt: &HostRuntime, heard: Heard, line: &[u8], bytes: &mut [u8], out: 
 
 // Answers the lines that end in this chunk, and keeps the beginning of the next. The first of them may have begun before.
 pub(crate) fn hear(
-    rt: &HostRuntime,
+    rt: &(impl Print + Eprint),
     desk: Desk,
     length: usize,
     chunk: &[u8],
@@ -164,7 +146,7 @@ pub(crate) fn hear(
 
 // The end of the input, or of what could be read of it: answers a last line that has no end.
 pub(crate) fn end(
-    rt: &HostRuntime,
+    rt: &(impl Print + Eprint),
     well: bool,
     desk: Desk,
     length: usize,

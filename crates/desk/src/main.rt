@@ -13,6 +13,7 @@ use account::Account;
 use desk_account::turn::Desk;
 use forms::take::part;
 use hearing::{Heard, end, hear, print, read_more};
+use std::io::Read;
 
 // More chunks than any input has.
 const CHUNKS: u64 = 18_446_744_073_709_551_615;
@@ -45,7 +46,8 @@ fn nobody() -> Desk
 
 // Hears the input to its end, and prints the answers before it waits for more. Answers whether all went well.
 fn talk(
-    rt: &HostRuntime,
+    rt: &(impl Print + Eprint),
+    input: &mut impl Read,
     chunk: &mut [u8],
     line: &mut [u8],
     bytes: &mut [u8],
@@ -58,7 +60,7 @@ fn talk(
         lost: false,
     };
     for _ in 0..CHUNKS {
-        let more = read_more(rt, chunk);
+        let more = read_more(rt, input, chunk);
         let count = more.count;
         if count == 0 {
             return end(rt, more.well, heard.desk, heard.length, line, bytes, out);
@@ -78,8 +80,15 @@ fn main(rt: HostRuntime) {
     let mut line = line_buffer();
     let mut bytes = line_buffer();
     let mut out = answer_buffer();
-    let well = talk(&rt, &mut chunk, &mut line, &mut bytes, &mut out);
-    if launcher::asked(b"--status") {
-        launcher::tell(if well { 0 } else { 2 });
+    let well = talk(
+        &rt,
+        &mut rt.stdin(),
+        &mut chunk,
+        &mut line,
+        &mut bytes,
+        &mut out,
+    );
+    if launcher::asked(&rt, b"--status") {
+        launcher::tell(&rt, if well { 0 } else { 2 });
     }
 }
