@@ -23,6 +23,8 @@ BESIDE = {
     "calendar/proofs/Months.antt": {"in_one": "in_one_lem"},
     "dates/proofs/Every.antt": {"is_digit": "is_digit_lem"},
     "decimals/proofs/ReadsBack.antt": {"is_digit": "is_digit_lem"},
+    "host/proofs/Outcome.antt": {"judged-as": "judged_as_lem"},
+    "host/proofs/flare_minute/Proof.antt": {"judged-as": "judged_as_lem"},
     "intake/proofs/Pieces.antt": {"by_answer": "by_answer_lem"},
     "intake/proofs/ByRecords.antt": {"by_answer": "by_answer_lem"},
 }

@@ -1,4 +1,6 @@
 // The month of a day.
+#![tactic(auto)]
+
 mod table;
 
 ghost use Rattle.std.specs.Prelude.{◌≡◌};

@@ -1,4 +1,6 @@
 // The minutes under each rule.
+#![tactic(auto)]
+
 ghost use Rattle.std.specs.Prelude.{◌≡◌, ◌+◌, ◌≤◌, ◌<◌, eqb, length, get_or};
 ghost use Rattle.sums.specs.Sums.{one_if};
 ghost use Rattle.sums.specs.scaffold.Fits.{minutes_most};

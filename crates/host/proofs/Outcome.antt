@@ -112,9 +112,9 @@ module _ (site minute : List ℕ) (days : ℕ) (answer : List ℕ) where
       let head = buffer_lines 25 answer ++ site_head_lines site in
       (split head (site_lines s) (split (head ++ site_lines s) (minute_head_lines minute) e).0).1
 
-  pub judged_as : first_of (record_lines site minute answer) ≡ Fine → (m : Masses) → judged m (beyond_year s n) s n (since_in_time s days) ≡ judged_as m
+  pub judged_as_lem : first_of (record_lines site minute answer) ≡ Fine → (m : Masses) → judged m (beyond_year s n) s n (since_in_time s days) ≡ judged_as m
   unfolding judged single_figures
-  judged_as e m =
+  judged_as_lem e m =
       ap (answered Accepted Refused (single_figures m site minute days))
       (joined (minute_lines (beyond_year s n) n) (oxygen_lines s n) ∙ sym (by-records e))
 

@@ -34,8 +34,7 @@ fn fill(answer: &mut [u8], figures: Figures)
 }
 
 // 0 and the answer, or the number of the first of the refusals 22, 1 to 9, the minute's 1, 2 and 12 to 19, and the buffer as it was.
-#[unsafe(no_mangle)]
-pub extern "C" fn flare_minute(site: &[u8], minute: &[u8], days: u16, answer: &mut [u8]) -> u8
+pub fn flare_minute(site: &[u8], minute: &[u8], days: u16, answer: &mut [u8]) -> u8
     ensures { (result ≡ returned (single site.now minute.now answer.old)) × ((m : Masses) → Positive m → answer.new ≡ answer_after m site.now minute.now days answer.old) }
 {
     if answer.len() != Figures::ANSWER_BYTES {

@@ -1,4 +1,6 @@
 // The lines of a minute and of a refused site, each put into a buffer from a place on.
+#![tactic(auto)]
+
 ghost use Rattle.std.specs.Prelude.{◌≡◌, ◌+◌, ◌≤◌, length};
 ghost use Rattle.room.specs.Places.{placed, place_after};
 ghost use Rattle.text.specs.Places.{PutFrom};

@@ -1,4 +1,6 @@
 // Whole nanograms of methane, rounded up once from the exact fraction.
+#![tactic(auto)]
+
 ghost use Rattle.std.specs.Prelude.{◌≡◌, ◌+◌, ◌*◌, ◌≤◌, ◌<◌, ◌^◌, min};
 ghost use Rattle.exact.specs.Rounding.{ceil_div};
 ghost use Rattle.tool06.specs.scaffold.Nanograms.{P, Q, emitted_ng, Measurable, Takes};

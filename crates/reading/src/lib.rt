@@ -1,4 +1,6 @@
 // Reading both records from any bytes.
+#![tactic(auto)]
+
 mod minutes;
 mod sites;
 

@@ -1,4 +1,6 @@
 // The worked examples of R67 in docs/RULES.md, in one table.
+#![tactic(auto)]
+
 ghost use Rattle.std.specs.Prelude.{◌≡◌};
 ghost use Rattle.worked.specs.Table.{flare, gas, reading, answers, line, table};
 

@@ -1,4 +1,6 @@
 // Writing both records into any buffer.
+#![tactic(auto)]
+
 mod minutes;
 mod sites;
 

@@ -6,7 +6,7 @@ use Rattle.site.specs.Record.{read_site}
 use Rattle.site.specs.declared.SiteRead.TheVariants.{Fields}
 use Rattle.tool06.specs.Tool.{Masses, Positive}
 use Rattle.tool06.specs.declared.figures.Judged.TheVariants.{Accepted, Refused}
-use Rattle.host.proofs.Outcome.{record_lines, judged_as, wrong_size, by-site, same_fields, by-minute, refused_as, examined, judged_as, outcome}
+use Rattle.host.proofs.Outcome.{record_lines, judged_as, wrong_size, by-site, same_fields, by-minute, refused_as, examined, judged_as_lem, outcome}
 use borrow.Author.Rules.{rules}
 use Rattle.host.proofs.flare_minute.Statement.{statement}
 use Rattle.host.proofs.flare_minute.Tie as tie
@@ -46,7 +46,7 @@ came j m pos =
       j.before.before.minute-in.ensures,
       same_fields a.site.now (read_as f),
     )
-    (judged_as _ _ _ _ (fine e) m)
+    (judged_as_lem _ _ _ _ (fine e) m)
 
 returns : tie.Need-returns
 returns c =

@@ -1,0 +1,20 @@
+use mathlib.Core.Path.{refl}
+use Rattle.records.proofs.Writing.{filled_record}
+use Rattle.site.specs.Record.{site_form, site_bytes}
+use Rattle.writing.proofs.sites.fill.Goals as goal
+
+pub returns : goal.returns
+unfolding site_bytes
+returns c =
+    let s = c.args.site in
+    rw (
+      c.put_u16-3.ensures,
+      c.fill_limits.ensures,
+      c.put_u32-2.ensures,
+      c.put_u32.ensures,
+      c.put_u16-2.ensures,
+      c.put_u16.ensures,
+      c.put_byte.ensures,
+      c.put_head.ensures,
+    )
+    (filled_record site_form s c.args.out.now refl c.requires)
