@@ -22,6 +22,7 @@ one_more_at counts rule k there = by-rule (eqb rule k) refl
         omega (arith, other)
 
 sum-set : (xs : List ℕ) (k x : ℕ) → k < length xs → sum (set xs k x) + get_or xs k 0 ≡ sum xs + x
+sum-set [] k x h = elim h [ ]
 sum-set (y ∷ xs) zero x h = omega arith
 sum-set (y ∷ xs) (suc k) x h = let e = sum-set xs k x (omega arith) in omega (arith, e)
 

@@ -1,4 +1,6 @@
 // The minute that is due: what a record is answered where it is expected.
+#![tactic(auto)]
+
 ghost use Rattle.std.specs.Prelude.{◌≡◌};
 ghost use Rattle.due.specs.Answer.{is_full, in_time_at, answer};
 ghost use Rattle.maintenance.specs.Days.{KeptList};

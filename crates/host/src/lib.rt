@@ -1,4 +1,6 @@
 // A single minute, for host programs in C or Rust: numbers and byte slices only.
+#![tactic(auto)]
+
 ghost use Rattle.std.specs.Prelude.{◌≡◌, ◌+◌, ◌≤◌, length};
 ghost use Rattle.exact.specs.Bytes.{bytes_of, put};
 ghost use Rattle.tool06.specs.Tool.{Masses, Positive};

@@ -1,5 +1,6 @@
 // Why a call refuses, and the first of several reasons.
 #![tactic(auto)]
+
 mod refusal;
 mod verdict;
 

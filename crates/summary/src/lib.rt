@@ -1,4 +1,6 @@
 // The line of a rule in a summary, put into a buffer from a place on.
+#![tactic(auto)]
+
 ghost use Rattle.std.specs.Prelude.{◌≡◌};
 ghost use Rattle.room.specs.Places.{placed, place_after};
 ghost use Rattle.summary.specs.Summary.{rule_line};

@@ -1,5 +1,6 @@
 // What is added up: minutes, of them those with gas, and methane in mg. One minute's worth and an account's sums are alike.
 #![tactic(auto)]
+
 ghost use Rattle.std.specs.Prelude.{◌≡◌};
 ghost use Rattle.sums.specs.Sums.{no_sums, ◌⊞◌};
 ghost use Rattle.sums.specs.scaffold.Fits.{Fits};
