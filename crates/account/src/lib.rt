@@ -1,4 +1,6 @@
 // The account of one flare over one calendar year.
+#![tactic(auto)]
+
 mod add;
 mod close;
 mod open;

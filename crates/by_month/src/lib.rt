@@ -1,4 +1,6 @@
 // The call for one month's row.
+#![tactic(auto)]
+
 ghost use Rattle.std.specs.Prelude.{◌≡◌};
 ghost use Rattle.account.specs.Kept.{Kept};
 ghost use Rattle.by_month.specs.Month.{month_asked};

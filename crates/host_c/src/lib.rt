@@ -1,5 +1,6 @@
 // The call of host, exported for programs in C or Rust under the name that include/flare.h declares.
 #![tactic(auto)]
+
 ghost use Rattle.std.specs.Prelude.{◌≡◌};
 ghost use Rattle.tool06.specs.Tool.{Masses, Positive};
 ghost use Rattle.host.specs.Single.{single, returned, answer_after};

@@ -1,4 +1,6 @@
 // The lines of an account, its total and its year, each put into a buffer from a place on.
+#![tactic(auto)]
+
 ghost use Rattle.std.specs.Prelude.{◌≡◌, ◌+◌, ◌≤◌, length};
 ghost use Rattle.account.specs.Kept.{Kept};
 ghost use Rattle.sums.specs.scaffold.Fits.{minutes_most};

@@ -1,0 +1,12 @@
+use mathlib.Core.List.{[]}
+use mathlib.Core.Path.{refl}
+use native.Mathlib.Omega.{arith}
+use Rattle.exact.proofs.Layouts.{filled-laid}
+use Rattle.host.specs.Single.{answer_layout, answer_bytes}
+use Rattle.host.proofs.fill.Goals as goal
+
+pub returns : goal.returns
+unfolding answer_bytes
+returns c =
+    rw (c.put_byte.ensures, c.put_u64-3.ensures, c.put_u64-2.ensures, c.put_u64.ensures)
+    (filled-laid answer_layout c.args.figures [] c.args.answer.now 25 refl (omega (arith, c.requires)))
