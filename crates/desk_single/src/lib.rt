@@ -1,5 +1,6 @@
 // The call of the desk that makes the C call, `single`. Its answer buffer holds a5 before.
 #![tactic(auto)]
+
 use answers::put;
 use desk_records::buffers::{blank, put_room};
 use forms::take::{SECOND_AT, part, u16_of};
