@@ -1,6 +1,6 @@
 /* Llethrudd: one minute of one flare, judged by CDM TOOL06.
  *
- * Link with target/staticlib/libhost.a (x86-64; `rt staticlib host` makes it). The call needs no set-up, keeps nothing
+ * Link with target/staticlib/libhost.a (x86-64; `tools/build host` makes it). The call needs no set-up, keeps nothing
  * between calls, allocates nothing, and may be made from several threads at once.
  */
 #ifndef FLARE_H

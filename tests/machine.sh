@@ -34,10 +34,10 @@ esac
 
 product_is_there() {
     local there=0
-    [ -f "$flare_program" ] || { echo "tests: $flare_program is missing: make it with 'rt check flare'" >&2; there=1; }
-    [ -f "$months_program" ] || { echo "tests: $months_program is missing: make it with 'rt check months'" >&2; there=1; }
-    [ -f "$desk_program" ] || { echo "tests: $desk_program is missing: make it with 'rt check desk'" >&2; there=1; }
-    [ -f "$host_library" ] || { echo "tests: $host_library is missing: make it with 'rt staticlib host'" >&2; there=1; }
+    [ -f "$flare_program" ] || { echo "tests: $flare_program is missing: make it with 'tools/build flare'" >&2; there=1; }
+    [ -f "$months_program" ] || { echo "tests: $months_program is missing: make it with 'tools/build months'" >&2; there=1; }
+    [ -f "$desk_program" ] || { echo "tests: $desk_program is missing: make it with 'tools/build desk'" >&2; there=1; }
+    [ -f "$host_library" ] || { echo "tests: $host_library is missing: make it with 'tools/build host'" >&2; there=1; }
     [ -f "$root/include/flare.h" ] || { echo "tests: $root/include/flare.h is missing" >&2; there=1; }
     return $there
 }

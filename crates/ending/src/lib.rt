@@ -1,4 +1,6 @@
 // The text that a program ends with: the total and the year, or the one line of a refused site.
+#![tactic(auto)]
+
 ghost use Rattle.std.specs.Prelude.{◌≡◌, ◌+◌, ◌≤◌, length};
 ghost use Rattle.exact.specs.Bytes.{put};
 ghost use Rattle.account.specs.Kept.{Kept};

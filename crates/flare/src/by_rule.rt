@@ -5,33 +5,34 @@ ghost use Rattle.tool06.specs.Rules.{rule_count};
 use tool06::Figures;
 
 // A line's text is that of the crate `summary`. Answers whether it could be printed.
-fn print_rule(counts: [u32; Figures::RULES], rule: u8, words: &[u8]) -> bool
+fn print_rule(rt: &impl Print, counts: [u32; Figures::RULES], rule: u8, words: &[u8]) -> bool
     requires { rule < rule_count }
 {
     let mut line = [0u8; 163];
     let used = summary::put_rule(&mut line, 0, rule, counts[rule as usize], words);
-    io::write_all(libc::STDOUT_FILENO, &line[0..used])
+    rt.write_all(&line[0..used]).is_ok()
 }
 
 // The rules that come before the method.
-fn print_operation(counts: [u32; Figures::RULES]) -> bool {
-    print_rule(counts, Figures::NO_GAS, b"no gas")
-        && print_rule(counts, Figures::NO_FLAME, b"no flame")
-        && print_rule(counts, Figures::OPEN, b"open flare")
-        && print_rule(counts, Figures::NO_TEMPERATURE, b"temperature missing")
+fn print_operation(rt: &impl Print, counts: [u32; Figures::RULES]) -> bool {
+    print_rule(rt, counts, Figures::NO_GAS, b"no gas")
+        && print_rule(rt, counts, Figures::NO_FLAME, b"no flame")
+        && print_rule(rt, counts, Figures::OPEN, b"open flare")
+        && print_rule(rt, counts, Figures::NO_TEMPERATURE, b"temperature missing")
         && print_rule(
+            rt,
             counts,
             Figures::TEMPERATURE,
             b"temperature outside the specification",
         )
-        && print_rule(counts, Figures::FLOW, b"flow outside the specification")
+        && print_rule(rt, counts, Figures::FLOW, b"flow outside the specification")
 }
 
 // Answers whether all could be printed; nothing follows what could not.
-pub(crate) fn print_rules(counts: [u32; Figures::RULES]) -> bool {
-    print_operation(counts)
-        && print_rule(counts, Figures::DEFAULT, b"default method")
-        && print_rule(counts, Figures::OVERDUE, b"maintenance overdue")
-        && print_rule(counts, Figures::NO_EXHAUST, b"exhaust readings missing")
-        && print_rule(counts, Figures::MEASURED, b"measured")
+pub(crate) fn print_rules(rt: &impl Print, counts: [u32; Figures::RULES]) -> bool {
+    print_operation(rt, counts)
+        && print_rule(rt, counts, Figures::DEFAULT, b"default method")
+        && print_rule(rt, counts, Figures::OVERDUE, b"maintenance overdue")
+        && print_rule(rt, counts, Figures::NO_EXHAUST, b"exhaust readings missing")
+        && print_rule(rt, counts, Figures::MEASURED, b"measured")
 }

@@ -10,26 +10,31 @@ use ending::put_ending;
 use program::print;
 
 // The total and the year, once every minute's line is printed.
-fn finish(account: Account, out: &mut [u8]) -> bool
+fn finish(rt: &(impl Print + Eprint), account: Account, out: &mut [u8]) -> bool
     requires kept { Kept account }
     requires out_len { length out.old ≡ 65536 }
     ensures { out.new ≡ put out.old 0 (ending account) }
 {
     let used = put_ending(out, 0, account);
-    print(out, used)
+    print(rt, out, used)
 }
 
 // Answers whether the last lines could be printed.
-pub(crate) fn end(account: Account, summary: bool, out: &mut [u8]) -> bool
+pub(crate) fn end(
+    rt: &(impl Print + Eprint),
+    account: Account,
+    summary: bool,
+    out: &mut [u8],
+) -> bool
     requires kept { Kept account }
     requires out_len { length out.old ≡ 65536 }
 {
     let counts = account.counts();
     if summary {
-        if !print_rules(counts) {
-            notes::unwritten();
+        if !print_rules(rt, counts) {
+            notes::unwritten(rt);
             return false;
         }
     }
-    finish(account, out)
+    finish(rt, account, out)
 }

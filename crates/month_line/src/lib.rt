@@ -1,4 +1,6 @@
 // The line of a month.
+#![tactic(auto)]
+
 ghost use Rattle.std.specs.Prelude.{◌≡◌, ◌+◌, ◌≤◌, length};
 ghost use Rattle.account.specs.Kept.{Kept};
 ghost use Rattle.sums.specs.scaffold.Fits.{minutes_most};

@@ -1,4 +1,6 @@
 // Reads a site record and then minutes from standard input, and prints the sums of each month, the total and the year.
+#![tactic(auto)]
+
 ghost use Rattle.std.specs.Prelude.{◌≡◌, length};
 ghost use Rattle.exact.specs.Bytes.{put};
 ghost use Rattle.account.specs.Kept.{Kept};
@@ -10,15 +12,16 @@ use monthly::put_sheet;
 use program::{BUFFERS, Ended, Outcome, begin, conclude, fill, is_last, print, tell};
 use refusals::Verdict;
 use report::RECORDS;
+use std::io::Read;
 
 // All that is printed, once no record follows.
-fn finish(account: Account, verdict: Verdict, out: &mut [u8]) -> Outcome
+fn finish(rt: &(impl Print + Eprint), account: Account, verdict: Verdict, out: &mut [u8]) -> Outcome
     requires kept { Kept account }
     requires out_len { length out.old ≡ 65536 }
     ensures { out.new ≡ put out.old 0 (month_sheet account verdict) }
 {
     let used = put_sheet(out, account, verdict);
-    if print(out, used) {
+    if print(rt, out, used) {
         Outcome::Well
     } else {
         Outcome::Failed
@@ -26,16 +29,22 @@ fn finish(account: Account, verdict: Verdict, out: &mut [u8]) -> Outcome
 }
 
 // The minutes, a buffer at a time, up to a refusal or the end of the input.
-fn run(account: Account, records: &mut [u8], out: &mut [u8]) -> Ended
+fn run(
+    rt: &(impl Print + Eprint),
+    input: &mut impl Read,
+    account: Account,
+    records: &mut [u8],
+    out: &mut [u8],
+) -> Ended
     requires kept { Kept account }
     requires out_len { length out.old ≡ 65536 }
 {
     let mut current = account;
     for _ in 0..BUFFERS {
-        let filled = fill(records);
+        let filled = fill(input, records);
         // A record that a failed read cuts short was not cut by the input's end, so nothing is printed.
         if filled.failed {
-            notes::unread();
+            notes::unread(rt);
             return Ended::of(Outcome::Failed, Verdict::Fine, current, 0);
         }
         let n = filled.bytes;
@@ -43,25 +52,32 @@ fn run(account: Account, records: &mut [u8], out: &mut [u8]) -> Ended
         current = added.account;
         let verdict = added.verdict;
         if is_last(verdict, n) {
-            return Ended::of(finish(current, verdict, out), verdict, current, n);
+            return Ended::of(finish(rt, current, verdict, out), verdict, current, n);
         }
     }
     Ended::of(Outcome::More, Verdict::Fine, current, 0)
 }
 
 // The input, from its site on.
-fn read() -> Outcome {
-    let mut records = io::large_buffer();
-    let mut out = io::large_buffer();
-    let begun = begin(&mut out);
+fn read(rt: HostRuntime) -> Outcome {
+    let mut records = [0u8; 65_536];
+    let mut out = [0u8; 65_536];
+    let mut input = rt.stdin();
+    let begun = begin(&rt, &mut input, &rt.stderr(), &mut out);
     let outcome = begun.outcome;
     let Outcome::More = outcome else {
         return outcome;
     };
-    let ended = run(begun.account, &mut records[0..RECORDS], &mut out);
-    conclude(ended, &records)
+    let ended = run(
+        &rt,
+        &mut input,
+        begun.account,
+        &mut records[0..RECORDS],
+        &mut out,
+    );
+    conclude(&rt, ended, &records)
 }
 
-fn main() {
-    tell(read());
+fn main(rt: HostRuntime) {
+    tell(&rt, read(rt));
 }

@@ -1,4 +1,6 @@
 // What a program says to a person, on standard error: how it understood the site, why it refused, what its total is not.
+#![tactic(auto)]
+
 mod minutes;
 mod moment;
 mod say;

@@ -19,42 +19,52 @@ const OXYGEN: u8 = 46;
 
 const METHANE: u8 = 50;
 
-fn other_version(expected: u32, year: u16) {
-    moment::minute(b"flare: where minute ", expected, year);
+fn other_version(rt: &impl Eprint, expected: u32, year: u16) {
+    moment::minute(rt, "flare: where minute ", expected, year);
     say::text(
-        b" was expected stands a record of another version: 2 VERSION; export the records in version 1\n",
+        rt,
+        " was expected stands a record of another version: 2 VERSION; export the records in version 1\n",
     );
 }
 
 // Where so many bytes are no minute record.
-fn no_minute(bytes: usize, expected: u32, year: u16) {
-    moment::minute(b"flare: where minute ", expected, year);
+fn no_minute(rt: &impl Eprint, bytes: usize, expected: u32, year: u16) {
+    moment::minute(rt, "flare: where minute ", expected, year);
     if bytes < Minute::BYTES {
         say::between(
-            b" was expected the input ends within a record, bytes of it: ",
+            rt,
+            " was expected the input ends within a record, bytes of it: ",
             bytes as u64,
-            b": 1 LENGTH; was the file copied whole?\n",
+            ": 1 LENGTH; was the file copied whole?\n",
         );
     } else {
         say::text(
-            b" was expected stands no minute record, which begins with 00 34 01: 1 LENGTH; was something put in or left out before it?\n",
+            rt,
+            " was expected stands no minute record, which begins with 00 34 01: 1 LENGTH; was something put in or left out before it?\n",
         );
     }
 }
 
 // The minutes are those that the year has.
-fn out_of_order(came: u32, expected: u32, minutes: u32, year: u16) {
-    moment::minute(b"flare: minute ", expected, year);
-    moment::minute(b" was expected, and minute ", came, year);
+fn out_of_order(rt: &impl Eprint, came: u32, expected: u32, minutes: u32, year: u16) {
+    moment::minute(rt, "flare: minute ", expected, year);
+    moment::minute(rt, " was expected, and minute ", came, year);
     if came < expected {
-        say::text(b" came, which is in already: 13 ORDER; is a minute doubled or out of order?\n");
+        say::text(
+            rt,
+            " came, which is in already: 13 ORDER; is a minute doubled or out of order?\n",
+        );
     } else if minutes <= came {
-        say::text(b" came, which the year does not have: 13 ORDER; are minutes counted from 0?\n");
+        say::text(
+            rt,
+            " came, which the year does not have: 13 ORDER; are minutes counted from 0?\n",
+        );
     } else {
         say::between(
-            b" came: 13 ORDER; minutes missing before it: ",
+            rt,
+            " came: 13 ORDER; minutes missing before it: ",
             (came - expected) as u64,
-            b"\n",
+            "\n",
         );
     }
 }
@@ -70,107 +80,127 @@ fn sum_of_fractions(record: &[u8]) -> u64 {
     sum
 }
 
-fn field(before: &[u8], record: &[u8], at: u8, after: &[u8]) {
-    say::between(before, numbers::u32_at(record, at) as u64, after);
+fn field(rt: &impl Eprint, before: &str, record: &[u8], at: u8, after: &str) {
+    say::between(rt, before, numbers::u32_at(record, at) as u64, after);
 }
 
-fn wrong_gas(refusal: Refusal, record: &[u8]) {
+fn wrong_gas(rt: &impl Eprint, refusal: Refusal, record: &[u8]) {
     match refusal {
         Refusal::Flow => field(
-            b"14 FLOW: ",
+            rt,
+            "14 FLOW: ",
             record,
             LITRES,
-            b" litres; they must be at most 100000",
+            " litres; they must be at most 100000",
         ),
         Refusal::Composition => say::between(
-            b"15 COMPOSITION: the eight fractions add up to ",
+            rt,
+            "15 COMPOSITION: the eight fractions add up to ",
             sum_of_fractions(record),
-            b" ppm, not to 1000000",
+            " ppm, not to 1000000",
         ),
         Refusal::Methane => field(
-            b"16 METHANE: CH4 is ",
+            rt,
+            "16 METHANE: CH4 is ",
             record,
             CH4,
-            b" ppm; it must not be 0, nor below CO, H2, H2S or NH3",
+            " ppm; it must not be 0, nor below CO, H2, H2S or NH3",
         ),
-        _ => say::text(b"19 OXYGEN: more oxygen in the gas than the equations can take"),
+        _ => say::text(
+            rt,
+            "19 OXYGEN: more oxygen in the gas than the equations can take",
+        ),
     }
 }
 
-fn wrong_temperature(record: &[u8]) {
+fn wrong_temperature(rt: &impl Eprint, record: &[u8]) {
     let temperature = numbers::signed(numbers::u16_at(record, TEMPERATURE));
-    say::degrees(b"17 TEMPERATURE: ", temperature);
-    say::text(b" degrees; it must be -50.0 to 1500.0, and 0 where its flag is off");
-}
-
-fn wrong_exhaust(record: &[u8]) {
-    field(b"18 EXHAUST: oxygen ", record, OXYGEN, b" ppm, methane ");
-    field(
-        b"",
-        record,
-        METHANE,
-        b" mg/m3; they must be at most 209999 and 50000, and 0 where their flag is off",
+    say::degrees(rt, "17 TEMPERATURE: ", temperature);
+    say::text(
+        rt,
+        " degrees; it must be -50.0 to 1500.0, and 0 where its flag is off",
     );
 }
 
-fn wrong_reading(refusal: Refusal, record: &[u8]) {
+fn wrong_exhaust(rt: &impl Eprint, record: &[u8]) {
+    field(rt, "18 EXHAUST: oxygen ", record, OXYGEN, " ppm, methane ");
+    field(
+        rt,
+        "",
+        record,
+        METHANE,
+        " mg/m3; they must be at most 209999 and 50000, and 0 where their flag is off",
+    );
+}
+
+fn wrong_reading(rt: &impl Eprint, refusal: Refusal, record: &[u8]) {
     match refusal {
         Refusal::Flags => say::between(
-            b"12 FLAGS: ",
+            rt,
+            "12 FLAGS: ",
             numbers::byte_at(record, FLAGS) as u64,
-            b"; they must be the sum of 1 flame seen, 2 temperature present, 4 exhaust readings present",
+            "; they must be the sum of 1 flame seen, 2 temperature present, 4 exhaust readings present",
         ),
-        Refusal::Temperature => wrong_temperature(record),
-        Refusal::Exhaust => wrong_exhaust(record),
-        _ => wrong_gas(refusal, record),
+        Refusal::Temperature => wrong_temperature(rt, record),
+        Refusal::Exhaust => wrong_exhaust(rt, record),
+        _ => wrong_gas(rt, refusal, record),
     }
 }
 
 // Which minute a record was refused for.
-fn which(came: u32, expected: u32, year: u16) {
-    moment::minute(b"flare: minute ", expected, year);
+fn which(rt: &impl Eprint, came: u32, expected: u32, year: u16) {
+    moment::minute(rt, "flare: minute ", expected, year);
     if came == expected {
-        say::text(b" is refused, ");
+        say::text(rt, " is refused, ");
     } else {
-        moment::minute(b" was expected, and minute ", came, year);
-        say::text(b" came, which is refused, ");
+        moment::minute(rt, " was expected, and minute ", came, year);
+        say::text(rt, " came, which is refused, ");
     }
 }
 
 // The input went on after the year's last minute.
-fn full(bytes: usize, minutes: u32, year: u16) {
+fn full(rt: &impl Eprint, bytes: usize, minutes: u32, year: u16) {
     say::number(
-        b"flare: the input goes on after the last minute of ",
+        rt,
+        "flare: the input goes on after the last minute of ",
         year as u64,
     );
     if bytes < Minute::BYTES {
         say::between(
-            b" by a part of a record, bytes: ",
+            rt,
+            " by a part of a record, bytes: ",
             bytes as u64,
-            b": 11 FULL; was something put behind the year?",
+            ": 11 FULL; was something put behind the year?",
         );
     } else {
-        say::text(b": 11 FULL; is the site's year the minutes' year?");
+        say::text(rt, ": 11 FULL; is the site's year the minutes' year?");
     }
     say::between(
-        b" The total is that of the first ",
+        rt,
+        " The total is that of the first ",
         minutes as u64,
-        b" minutes alone\n",
+        " minutes alone\n",
     );
 }
 
 // Why the record is refused with which these bytes begin, where a minute was expected.
-pub fn refused_minute(refusal: Refusal, record: &[u8], expected: u32, site: Site) {
+pub fn refused_minute(
+    rt: &impl Eprint,
+    refusal: Refusal,
+    record: &[u8],
+    expected: u32,
+    site: Site,
+) {
     let came = numbers::u32_at(record, NUMBER);
     match refusal {
-        Refusal::Length => no_minute(record.len(), expected, site.year),
-        Refusal::Version => other_version(expected, site.year),
-        Refusal::Full => full(record.len(), expected, site.year),
-        Refusal::Order => out_of_order(came, expected, site.minutes(), site.year),
+        Refusal::Length => no_minute(rt, record.len(), expected, site.year),
+        Refusal::Version => other_version(rt, expected, site.year),
+        Refusal::Full => full(rt, record.len(), expected, site.year),
+        Refusal::Order => out_of_order(rt, came, expected, site.minutes(), site.year),
         _ => {
-            which(came, expected, site.year);
-            wrong_reading(refusal, record);
-            say::text(b"\n");
+            which(rt, came, expected, site.year);
+            wrong_reading(rt, refusal, record);
+            say::text(rt, "\n");
         }
     }
 }

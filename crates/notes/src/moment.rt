@@ -39,15 +39,15 @@ fn date_of(day: u32, year: u16) -> Date {
 }
 
 // As in `minute 100 (2027-01-01 01:40)`; a minute that the year does not have is only a number.
-pub(crate) fn minute(words: &[u8], minute: u32, year: u16) {
+pub(crate) fn minute(rt: &impl Eprint, words: &str, minute: u32, year: u16) {
     let date = date_of(minute / Site::DAY_MINUTES, year);
-    say::number(words, minute as u64);
+    say::number(rt, words, minute as u64);
     if date.day < DECEMBER {
-        say::number(b" (", year as u64);
-        say::pair(b"-", date.month);
-        say::pair(b"-", date.day + 1);
-        say::pair(b" ", minute / 60 % 24);
-        say::pair(b":", minute % 60);
-        say::text(b")");
+        say::number(rt, " (", year as u64);
+        say::pair(rt, "-", date.month);
+        say::pair(rt, "-", date.day + 1);
+        say::pair(rt, " ", minute / 60 % 24);
+        say::pair(rt, ":", minute % 60);
+        say::text(rt, ")");
     }
 }

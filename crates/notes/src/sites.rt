@@ -12,51 +12,52 @@ fn place_of(class: Class) -> u8 {
     }
 }
 
-fn enclosure(class: Class, height: u32, diameter: u32) {
-    say::line(b"open\nlow\ntall\n", place_of(class));
-    say::metres(b" flare (", height);
-    say::metres(b" m on ", diameter);
-    say::text(b" m), ");
+fn enclosure(rt: &impl Eprint, class: Class, height: u32, diameter: u32) {
+    say::line(rt, "open\nlow\ntall\n", place_of(class));
+    say::metres(rt, " flare (", height);
+    say::metres(rt, " m on ", diameter);
+    say::text(rt, " m), ");
 }
 
-fn method(method: u8, days: u16) {
+fn method(rt: &impl Eprint, method: u8, days: u16) {
     if method == Site::DEFAULT {
-        say::text(b"default method");
+        say::text(rt, "default method");
     } else if method == Site::MEASURED {
-        say::text(b"measured each minute");
+        say::text(rt, "measured each minute");
     } else {
-        say::number(b"method ", method as u64);
+        say::number(rt, "method ", method as u64);
     }
     if 0 < days {
-        say::between(b", ", days as u64, b" days between maintenance");
+        say::between(rt, ", ", days as u64, " days between maintenance");
     }
 }
 
-fn specification(temperature: Temperatures, flow: Flows) {
-    say::degrees(b", ", temperature.lowest);
-    say::degrees(b" to ", temperature.highest);
-    say::number(b" degrees, ", flow.lowest as u64);
-    say::between(b" to ", flow.highest as u64, b" litres a minute\n");
+fn specification(rt: &impl Eprint, temperature: Temperatures, flow: Flows) {
+    say::degrees(rt, ", ", temperature.lowest);
+    say::degrees(rt, " to ", temperature.highest);
+    say::number(rt, " degrees, ", flow.lowest as u64);
+    say::between(rt, " to ", flow.highest as u64, " litres a minute\n");
 }
 
 // How the site was understood, so that a wrong unit or a field in another's place shows.
-pub fn understood(site: Site) {
+pub fn understood(rt: &impl Eprint, site: Site) {
     let temperature = site.temperature;
     let flow = site.flow;
-    say::text(b"flare: site: ");
-    enclosure(rules::class_of(site), site.height, site.diameter);
-    method(site.method, site.days);
-    say::number(b", ", site.year as u64);
-    say::number(b", GWP ", site.gwp as u64);
-    specification(temperature, flow);
+    say::text(rt, "flare: site: ");
+    enclosure(rt, rules::class_of(site), site.height, site.diameter);
+    method(rt, site.method, site.days);
+    say::number(rt, ", ", site.year as u64);
+    say::number(rt, ", GWP ", site.gwp as u64);
+    specification(rt, temperature, flow);
 }
 
 // What a measured flare's total is worth without maintenance days.
-pub fn overdue(minutes: u32) {
+pub fn overdue(rt: &impl Eprint, minutes: u32) {
     say::between(
-        b"flare: THIS TOTAL IS NOT THE SITE'S. A measured flare was judged without maintenance days; minutes that count as overdue (rule 7): ",
+        rt,
+        "flare: THIS TOTAL IS NOT THE SITE'S. A measured flare was judged without maintenance days; minutes that count as overdue (rule 7): ",
         minutes as u64,
-        b"; examples/desk.py takes the days (README.md, A measured flare)\n",
+        "; examples/desk.py takes the days (README.md, A measured flare)\n",
     );
 }
 
@@ -69,7 +70,7 @@ fn begins_text(first: u8) -> bool {
 }
 
 // What the input is that has no site, a line each.
-const NO_SITE: [u8; 132] = *b"is empty
+const NO_SITE: &str = "is empty
 looks like text, which examples/records.c makes into records
 ends within the site record
 does not begin with a site record
@@ -88,17 +89,18 @@ fn line_of(bytes: usize, text: bool) -> u8 {
     }
 }
 
-fn no_site(bytes: &[u8]) {
+fn no_site(rt: &impl Eprint, bytes: &[u8]) {
     let text = begins_text(numbers::byte_at(bytes, 0));
-    say::text(b"flare: the site is refused, 1 LENGTH: the input ");
-    say::line(&NO_SITE, line_of(bytes.len(), text));
+    say::text(rt, "flare: the site is refused, 1 LENGTH: the input ");
+    say::line(rt, NO_SITE, line_of(bytes.len(), text));
     say::text(
-        b"; a record file begins with a site record of 30 bytes, the first three 00 1c 01 (README.md, The records)\n",
+        rt,
+        "; a record file begins with a site record of 30 bytes, the first three 00 1c 01 (README.md, The records)\n",
     );
 }
 
 // What is wrong with a site, a line for each number.
-const WRONG_FIELD: [u8; 517] = *b"1 LENGTH
+const WRONG_FIELD: &str = "1 LENGTH
 2 VERSION: the third byte is not 1; export the records in version 1
 3 METHOD: 0 is the default method and 1 is measured each minute
 4 YEAR: 2000 to 2099
@@ -110,26 +112,26 @@ const WRONG_FIELD: [u8; 517] = *b"1 LENGTH
 ";
 
 // By its number. LENGTH is told by no_site, and those from LIST on are not of a site.
-fn wrong_field(refusal: u8) {
-    say::text(b"flare: the site is refused, ");
+fn wrong_field(rt: &impl Eprint, refusal: u8) {
+    say::text(rt, "flare: the site is refused, ");
     if refusal < 10 {
-        say::line(&WRONG_FIELD, refusal);
+        say::line(rt, WRONG_FIELD, refusal);
     } else {
-        say::number(b"", refusal as u64);
+        say::number(rt, "", refusal as u64);
     }
-    say::text(b"\n");
+    say::text(rt, "\n");
 }
 
 // Why the site is refused, and from METHOD on how it was understood.
-pub fn refused_site(refusal: Refusal, bytes: &[u8]) {
+pub fn refused_site(rt: &impl Eprint, refusal: Refusal, bytes: &[u8]) {
     match refusal {
-        Refusal::Length => no_site(bytes),
+        Refusal::Length => no_site(rt, bytes),
         _ => {
             let number = refusal.number();
             if 2 < number {
-                understood(reading::site_in(bytes));
+                understood(rt, reading::site_in(bytes));
             }
-            wrong_field(number);
+            wrong_field(rt, number);
         }
     }
 }

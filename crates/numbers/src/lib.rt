@@ -1,6 +1,6 @@
 // Numbers in bytes, the most significant first. Past the end a byte is read as 0 and none is put, so any place can be asked for.
-#![tactic(auto)]
 // A place is a size smaller the wider the number is, so that the places of its bytes fit.
+#![tactic(auto)]
 ghost use Rattle.std.specs.Prelude.{◌≡◌, [], ◌∷◌};
 ghost use Rattle.exact.specs.Bytes.{byte_at, number_at, bytes_of, put, signed, unsigned};
 

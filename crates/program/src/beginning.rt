@@ -13,6 +13,7 @@ use account::Account;
 use ending::put_refused_site;
 use refusals::{Refusal, Verdict};
 use site::{Site, SiteRead};
+use std::io::{IsTerminal, Read};
 
 // With More the account takes minutes; of the one beside another outcome nothing is said.
 #[derive(Clone, Copy)]
@@ -22,21 +23,21 @@ pub struct Begun {
 }
 
 // All that is printed of a site that is refused.
-fn print_refused(refusal: Refusal, out: &mut [u8]) -> bool
+fn print_refused(rt: &(impl Print + Eprint), refusal: Refusal, out: &mut [u8]) -> bool
     requires { length out.old ≡ 65536 }
     ensures { out.new ≡ put out.old 0 (site_line refusal) }
 {
     let used = put_refused_site(out, refusal);
-    print(out, used)
+    print(rt, out, used)
 }
 
 // A site that is refused, and why. No minute follows.
-fn refuse(refusal: Refusal, bytes: &[u8], out: &mut [u8]) -> Outcome
+fn refuse(rt: &(impl Print + Eprint), refusal: Refusal, bytes: &[u8], out: &mut [u8]) -> Outcome
     requires { length out.old ≡ 65536 }
     ensures { result ≡ Outcome.More → ⊥ }
 {
-    if print_refused(refusal, out) {
-        notes::refused_site(refusal, bytes);
+    if print_refused(rt, refusal, out) {
+        notes::refused_site(rt, refusal, bytes);
         Outcome::Refused
     } else {
         Outcome::Failed
@@ -44,23 +45,29 @@ fn refuse(refusal: Refusal, bytes: &[u8], out: &mut [u8]) -> Outcome
 }
 
 // On a terminal, how the site was understood, before the minutes are read.
-fn show(site: Site) {
-    if libc::isatty(libc::STDERR_FILENO) == 1 {
-        notes::understood(site);
+fn show(rt: &impl Eprint, stderr: &impl IsTerminal, site: Site) {
+    if stderr.is_terminal() {
+        notes::understood(rt, site);
     }
 }
 
 // Refuses the site in these bytes, or shows it; the verdict is that of its opening. Minutes follow only where neither refuses.
-fn receive(bytes: &[u8], verdict: Verdict, out: &mut [u8]) -> Outcome
+fn receive(
+    rt: &(impl Print + Eprint),
+    stderr: &impl IsTerminal,
+    bytes: &[u8],
+    verdict: Verdict,
+    out: &mut [u8],
+) -> Outcome
     requires { length out.old ≡ 65536 }
     ensures { result ≡ Outcome.More → (verdict ≡ Fine) × (read_site bytes.now ≡ Fields (site_of bytes.now)) }
 {
     match reading::read_site(bytes) {
-        SiteRead::Refused(refusal) => refuse(refusal, bytes, out),
+        SiteRead::Refused(refusal) => refuse(rt, refusal, bytes, out),
         SiteRead::Fields(site) => match verdict {
-            Verdict::Refuse(refusal) => refuse(refusal, bytes, out),
+            Verdict::Refuse(refusal) => refuse(rt, refusal, bytes, out),
             Verdict::Fine => {
-                show(site);
+                show(rt, stderr, site);
                 Outcome::More
             }
         },
@@ -69,18 +76,23 @@ fn receive(bytes: &[u8], verdict: Verdict, out: &mut [u8]) -> Outcome
 
 // Reads the site and opens its account, or prints its refusal and says why.
 // The account is opened in one place, whatever the bytes are, so that the compiler knows its list to be empty.
-pub fn begin(out: &mut [u8]) -> Begun
+pub fn begin(
+    rt: &(impl Print + Eprint),
+    input: &mut impl Read,
+    stderr: &impl IsTerminal,
+    out: &mut [u8],
+) -> Begun
     requires { length out.old ≡ 65536 }
     ensures { result.outcome ≡ Outcome.More → Kept result.account }
 {
     let mut first = [0u8; Site::BYTES];
-    let filled = fill(&mut first);
+    let filled = fill(input, &mut first);
     let n = filled.bytes;
     let bytes = &first[0..n];
     let opened = Account::open(reading::site_in(bytes), &[0i16; 0]);
     let account = opened.account;
     if filled.failed {
-        notes::unread();
+        notes::unread(rt);
         return Begun {
             outcome: Outcome::Failed,
             account,
@@ -88,7 +100,7 @@ pub fn begin(out: &mut [u8]) -> Begun
     }
     let verdict = opened.verdict;
     Begun {
-        outcome: receive(bytes, verdict, out),
+        outcome: receive(rt, stderr, bytes, verdict, out),
         account,
     }
 }

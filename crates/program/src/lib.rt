@@ -1,4 +1,6 @@
 // What the programs `flare` and `months` do alike: how they begin, read and print, and how they end.
+#![tactic(auto)]
+
 mod beginning;
 mod buffers;
 mod outcome;

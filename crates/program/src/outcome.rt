@@ -6,6 +6,7 @@ use minute::Minute;
 use refusals::{Refusal, Verdict};
 use report::MINUTES;
 use site::Site;
+use std::rt::{Env, Files};
 use tool06::Figures;
 
 // More: minutes may follow.
@@ -26,9 +27,9 @@ fn status(outcome: Outcome) -> u64 {
     }
 }
 
-pub fn tell(outcome: Outcome) {
-    if launcher::asked(b"--status") {
-        launcher::tell(status(outcome));
+pub fn tell(rt: &(impl Env + Files), outcome: Outcome) {
+    if launcher::asked(rt, b"--status") {
+        launcher::tell(rt, status(outcome));
     }
 }
 
@@ -62,30 +63,30 @@ impl Ended {
 }
 
 // Says why the record was refused that stands behind those that were taken from the last buffer; all before it were full.
-fn explain(refusal: Refusal, ended: Ended, records: &[u8]) {
+fn explain(rt: &impl Eprint, refusal: Refusal, ended: Ended, records: &[u8]) {
     let at = (ended.expected % MINUTES) as usize * Minute::BYTES;
     let end = ended.bytes;
     if end <= records.len() {
         if at <= end {
-            notes::refused_minute(refusal, &records[at..end], ended.expected, ended.site);
+            notes::refused_minute(rt, refusal, &records[at..end], ended.expected, ended.site);
         }
     }
 }
 
 // What is to be said of the last lines, once they are printed: what a measured flare's total is not, and why a record was refused.
-pub fn conclude(ended: Ended, records: &[u8]) -> Outcome {
+pub fn conclude(rt: &impl Eprint, ended: Ended, records: &[u8]) -> Outcome {
     let outcome = ended.outcome;
     let Outcome::Well = outcome else {
         return outcome;
     };
     if 0 < ended.overdue {
-        notes::overdue(ended.overdue);
+        notes::overdue(rt, ended.overdue);
     }
     let verdict = ended.verdict;
     match verdict {
         Verdict::Fine => Outcome::Well,
         Verdict::Refuse(refusal) => {
-            explain(refusal, ended, records);
+            explain(rt, refusal, ended, records);
             Outcome::Refused
         }
     }
