@@ -1,6 +1,9 @@
 // An answer by its form, in which marks stand for its numbers, as in C: %u a number, %d one of two bytes with a sign, %x one in hexadecimal, all its sixteen digits.
+ghost use Rattle.std.specs.Prelude.{◌≡◌, ◌-◌, ◌/◌, ◌%◌, ◌^◌, length, slice_index, EachIndex};
+ghost use Rattle.answers.specs.Digits.{hex_digit};
+
 use crate::pieces::end_of;
-use crate::put::{number, text};
+use crate::put::{glyph, number, text};
 
 const MARK: u8 = 37;
 
@@ -23,10 +26,25 @@ fn put_signed(out: &mut [u8], at: usize, n: u64) -> usize {
     number(out, at, 65_536 - n % 65_536)
 }
 
-fn put_bits(out: &mut [u8], at: usize, n: u64) -> usize {
+// A number's sixteen digits, the first for the most.
+fn digits_of(n: u64) -> [u8; 16]
+    ensures length { 16 ≡ length result }
+    ensures digits { EachIndex result (λ k. slice_index result k ≡ hex_digit (n / 16 ^ (15 - k) % 16)) }
+{
     let mut digits = [0u8; 16];
-    let count = io::hex(n, 16, &mut digits);
-    text(out, at, &digits[0..count])
+    let mut left = n;
+    let mut i: usize = 16;
+    while 0 < i {
+        i = i - 1;
+        digits[i] = glyph((left % 16) as u8);
+        left = left / 16;
+    }
+    digits
+}
+
+fn put_bits(out: &mut [u8], at: usize, n: u64) -> usize {
+    let digits = digits_of(n);
+    text(out, at, &digits)
 }
 
 // Behind the last mark there is no kind, and nothing is put.

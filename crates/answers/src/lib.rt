@@ -1,4 +1,6 @@
 // An answer of the desk, put into a buffer piece by piece or by its form.
+#![tactic(auto)]
+
 mod by_form;
 mod pieces;
 pub mod put;

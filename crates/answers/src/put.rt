@@ -1,5 +1,6 @@
 // Pieces that are put into a buffer one after the other; each call answers the place after what it put. A piece for which there is no room is left out; the desk's buffer has room for the longest answer.
-ghost use Rattle.std.specs.Prelude.{◌<◌};
+ghost use Rattle.std.specs.Prelude.{◌≡◌, ◌<◌};
+ghost use Rattle.answers.specs.Digits.{hex_digit};
 
 use crate::by_form::answer;
 use refusals::Refusal;
@@ -45,8 +46,9 @@ pub fn each(out: &mut [u8], at: usize, numbers: &[u32]) -> usize {
     at
 }
 
-fn glyph(digit: u8) -> u8
+pub(crate) fn glyph(digit: u8) -> u8
     requires { digit < 16 }
+    ensures { result ≡ hex_digit digit }
 {
     if digit < 10 { 48 + digit } else { 87 + digit }
 }

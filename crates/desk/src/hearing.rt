@@ -4,6 +4,7 @@ ghost use Rattle.desk_account.specs.Desk.{Ready};
 use crate::answer::answer;
 use answers::{LINE_END, end_of};
 use desk_account::turn::Desk;
+use std::io::Read;
 
 // What is heard of a line that is longer than its buffer: more than any buffer has.
 const TOO_LONG: usize = 18_446_744_073_709_551_615;
@@ -28,14 +29,16 @@ pub(crate) struct More {
 }
 
 // Waits for more of the input.
-pub(crate) fn read_more(chunk: &mut [u8]) -> More {
-    let got = libc::read(libc::STDIN_FILENO, chunk);
-    if got < 0 {
-        notes::unread();
-    }
-    More {
-        count: io::count(got, chunk),
-        well: 0 <= got,
+pub(crate) fn read_more(rt: &impl Eprint, input: &mut impl Read, chunk: &mut [u8]) -> More {
+    match input.read(chunk) {
+        Ok(count) => More { count, well: true },
+        Err(_) => {
+            notes::unread(rt);
+            More {
+                count: 0,
+                well: false,
+            }
+        }
     }
 }
 
@@ -55,13 +58,13 @@ fn keep(line: &mut [u8], heard: usize, more: &[u8]) -> usize {
 }
 
 // Prints the answers, or says that it could not.
-pub(crate) fn print(out: &[u8], at: usize) -> bool {
+pub(crate) fn print(rt: &(impl Print + Eprint), out: &[u8], at: usize) -> bool {
     if at <= out.len() {
-        if io::write_all(libc::STDOUT_FILENO, &out[0..at]) {
+        if rt.write_all(&out[0..at]).is_ok() {
             return true;
         }
     }
-    notes::unwritten();
+    notes::unwritten(rt);
     false
 }
 
@@ -73,24 +76,30 @@ struct Waiting {
 }
 
 // Prints the answers when there are many.
-fn make_room(out: &[u8], at: usize) -> Waiting {
+fn make_room(rt: &(impl Print + Eprint), out: &[u8], at: usize) -> Waiting {
     if at <= FULL {
         Waiting { at, lost: false }
     } else {
         Waiting {
             at: 0,
-            lost: !print(out, at),
+            lost: !print(rt, out, at),
         }
     }
 }
 
 // A line's end: it is answered, and the next begins.
-fn end_line(heard: Heard, line: &[u8], bytes: &mut [u8], out: &mut [u8]) -> Heard
+fn end_line(
+    rt: &(impl Print + Eprint),
+    heard: Heard,
+    line: &[u8],
+    bytes: &mut [u8],
+    out: &mut [u8],
+) -> Heard
     requires { Ready heard.desk }
     ensures { Ready result.desk }
 {
     let turn = answer(heard.desk, line, heard.length, bytes, out, heard.at);
-    let waiting = make_room(out, turn.at);
+    let waiting = make_room(rt, out, turn.at);
     let desk = turn.desk;
     Heard {
         desk,
@@ -102,6 +111,7 @@ fn end_line(heard: Heard, line: &[u8], bytes: &mut [u8], out: &mut [u8]) -> Hear
 
 // Answers the lines that end in this chunk, and keeps the beginning of the next. The first of them may have begun before.
 pub(crate) fn hear(
+    rt: &(impl Print + Eprint),
     desk: Desk,
     length: usize,
     chunk: &[u8],
@@ -126,7 +136,7 @@ pub(crate) fn hear(
             return current;
         }
         from = end + 1;
-        current = end_line(current, line, bytes, out);
+        current = end_line(rt, current, line, bytes, out);
         if current.lost {
             return current;
         }
@@ -136,6 +146,7 @@ pub(crate) fn hear(
 
 // The end of the input, or of what could be read of it: answers a last line that has no end.
 pub(crate) fn end(
+    rt: &(impl Print + Eprint),
     well: bool,
     desk: Desk,
     length: usize,
@@ -149,5 +160,5 @@ pub(crate) fn end(
         return well;
     }
     let turn = answer(desk, line, length, bytes, out, 0);
-    print(out, turn.at)
+    print(rt, out, turn.at)
 }

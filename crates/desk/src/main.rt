@@ -1,4 +1,6 @@
 // Takes lines of text from standard input, each a call of the library, and answers each with a line on standard output.
+#![tactic(auto)]
+
 mod act;
 mod answer;
 mod checking;
@@ -11,6 +13,7 @@ use account::Account;
 use desk_account::turn::Desk;
 use forms::take::part;
 use hearing::{Heard, end, hear, print, read_more};
+use std::io::Read;
 
 // More chunks than any input has.
 const CHUNKS: u64 = 18_446_744_073_709_551_615;
@@ -42,7 +45,14 @@ fn nobody() -> Desk
 }
 
 // Hears the input to its end, and prints the answers before it waits for more. Answers whether all went well.
-fn talk(chunk: &mut [u8], line: &mut [u8], bytes: &mut [u8], out: &mut [u8]) -> bool {
+fn talk(
+    rt: &(impl Print + Eprint),
+    input: &mut impl Read,
+    chunk: &mut [u8],
+    line: &mut [u8],
+    bytes: &mut [u8],
+    out: &mut [u8],
+) -> bool {
     let mut heard = Heard {
         desk: nobody(),
         length: 0,
@@ -50,14 +60,14 @@ fn talk(chunk: &mut [u8], line: &mut [u8], bytes: &mut [u8], out: &mut [u8]) -> 
         lost: false,
     };
     for _ in 0..CHUNKS {
-        let more = read_more(chunk);
+        let more = read_more(rt, input, chunk);
         let count = more.count;
         if count == 0 {
-            return end(more.well, heard.desk, heard.length, line, bytes, out);
+            return end(rt, more.well, heard.desk, heard.length, line, bytes, out);
         }
         let came = part(chunk, 0, count);
-        heard = hear(heard.desk, heard.length, came, line, bytes, out);
-        let printed = print(out, heard.at);
+        heard = hear(rt, heard.desk, heard.length, came, line, bytes, out);
+        let printed = print(rt, out, heard.at);
         if !printed | heard.lost {
             return false;
         }
@@ -65,13 +75,20 @@ fn talk(chunk: &mut [u8], line: &mut [u8], bytes: &mut [u8], out: &mut [u8]) -> 
     false
 }
 
-fn main() {
-    let mut chunk = io::large_buffer();
+fn main(rt: HostRuntime) {
+    let mut chunk = [0u8; 65_536];
     let mut line = line_buffer();
     let mut bytes = line_buffer();
     let mut out = answer_buffer();
-    let well = talk(&mut chunk, &mut line, &mut bytes, &mut out);
-    if launcher::asked(b"--status") {
-        launcher::tell(if well { 0 } else { 2 });
+    let well = talk(
+        &rt,
+        &mut rt.stdin(),
+        &mut chunk,
+        &mut line,
+        &mut bytes,
+        &mut out,
+    );
+    if launcher::asked(&rt, b"--status") {
+        launcher::tell(&rt, if well { 0 } else { 2 });
     }
 }

@@ -70,7 +70,7 @@ fn list_in(line: &[u8], end: usize) -> Listed
     }
     let from = end + 1;
     let end = words::end_of_word(line, from);
-    if check::same(&line[from..end], b"days") {
+    if &line[from..end] == b"days".as_slice() {
         days_in(line, end)
     } else {
         none(Fit::Form)

@@ -66,7 +66,7 @@ fn site_into(room: &mut [u8], values: [usize; 15], out: &mut [u8], at: usize) ->
 }
 
 pub(crate) fn write_site(values: [usize; 15], out: &mut [u8], at: usize) -> usize {
-    let mut space = io::large_buffer();
+    let mut space = [0u8; 65_536];
     let room = u16_of(values[10]) as usize;
     site_into(&mut space[0..room], values, out, at)
 }
@@ -107,7 +107,7 @@ fn minute_into(room: &mut [u8], values: [usize; 15], out: &mut [u8], at: usize) 
 }
 
 pub(crate) fn write_minute(values: [usize; 15], out: &mut [u8], at: usize) -> usize {
-    let mut space = io::large_buffer();
+    let mut space = [0u8; 65_536];
     let room = u16_of(values[14]) as usize;
     minute_into(&mut space[0..room], values, out, at)
 }

@@ -1,4 +1,6 @@
 // The calls of the desk that need no account: what a record holds, a record written into a lent buffer, a day of a run.
+#![tactic(auto)]
+
 pub mod buffers;
 mod fields;
 mod runs;

@@ -1,4 +1,6 @@
 // The call of the desk that makes the C call, `single`. Its answer buffer holds a5 before.
+#![tactic(auto)]
+
 use answers::put;
 use desk_records::buffers::{blank, put_room};
 use forms::take::{SECOND_AT, part, u16_of};
@@ -19,7 +21,7 @@ fn single_into(
 
 // The number that the C call gives, and what it leaves in the answer buffer.
 pub fn single(values: [usize; 15], bytes: &[u8], out: &mut [u8], at: usize) -> usize {
-    let mut space = io::large_buffer();
+    let mut space = [0u8; 65_536];
     let site = part(bytes, 0, values[0]);
     let minute = part(bytes, SECOND_AT, values[1]);
     let days = u16_of(values[2]);

@@ -1,4 +1,6 @@
 // The calls of the desk that tell what an account comes to: `month`, `counts`, `close` and `chart`.
+#![tactic(auto)]
+
 ghost use Rattle.account.specs.Kept.{Kept};
 
 use account::{Account, Closed};

@@ -79,7 +79,7 @@ fn find(rows: &[u8], name: &[u8]) -> Call {
     let mut number: usize = 0;
     while from < rows.len() {
         let end = end_of(rows, from, LINE_END);
-        if check::same(name, name_in(&rows[from..end])) {
+        if name == name_in(&rows[from..end]) {
             return Call {
                 number,
                 from,
