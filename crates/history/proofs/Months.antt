@@ -2,9 +2,8 @@
 use mathlib.Core.Path.{◌≡◌, refl, sym, ap, ◌∙◌}
 use mathlib.Core.Bool.{Bool, true, false, cond}
 use mathlib.Core.List.{List, [], ◌∷◌, ◌++◌}
-use Prim.Native.Nat.{ℕ, ◌/◌, ◌≤◌}
+use Prim.Native.Nat.{ℕ, ◌/◌}
 use native.Mathlib.Omega.{arith}
-use lib.ListN.{length}
 use Rattle.sums.specs.Sums.{◌⊞◌, total}
 use Rattle.sums.specs.declared.Sums.{Sums}
 use Rattle.sums.proofs.Laws.{none-⊞, ⊞-none, ⊞-assoc}
