@@ -3,9 +3,7 @@ use Prim.Native.Nat.{ℕ, ◌≤◌}
 use mathlib.Core.Path.{◌≡◌, refl}
 use native.Mathlib.Omega.{arith}
 use lib.ListN.{length, length-append}
-use Rattle.sums.specs.declared.Sums.{Sums}
 use Rattle.sums.specs.scaffold.Fits.{minutes_most}
-use Rattle.account.specs.Kept.{Kept}
 use Rattle.account.specs.declared.Account.{Account}
 use Rattle.by_month.specs.Month.{month_asked}
 use Rattle.by_month.specs.declared.Asked.{Asked}

@@ -1,7 +1,5 @@
 -- The months of records that come in pieces are those of all of them.
-use Prim.Native.Nat.{ℕ}
 use mathlib.Core.Path.{◌≡◌, refl}
-use mathlib.Core.List.{List}
 use Rattle.refusals.specs.declared.verdict.Verdict.{Verdict}
 use Rattle.refusals.specs.declared.verdict.Verdict.TheVariants.{Fine, Refuse}
 use Rattle.in_turn.specs.Turn.{records_of, AddedAll, add_all}

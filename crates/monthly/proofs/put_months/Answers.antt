@@ -4,9 +4,7 @@ use mathlib.Core.List.{List}
 use native.Mathlib.Omega.{arith}
 use lib.ListN.{length}
 use Rattle.exact.specs.Bytes.{put}
-use Rattle.account.specs.Kept.{Kept}
 use Rattle.account.specs.declared.Account.{Account}
-use Rattle.text.specs.Places.{PutFrom}
 use Rattle.text.proofs.Putting.{onward}
 use Rattle.room.specs.Places.{placed, place_after}
 use Rattle.room.proofs.Placing.{whole}
