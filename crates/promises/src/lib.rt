@@ -1,1 +1,2 @@
 // What the product promises, on one page. It has no function.
+#![tactic(auto)]
