@@ -59,13 +59,17 @@ fn keep(line: &mut [u8], heard: usize, more: &[u8]) -> usize {
 
 // Prints the answers, or says that it could not.
 pub(crate) fn print(rt: &(impl Print + Eprint), out: &[u8], at: usize) -> bool {
-    if at <= out.len() {
-        if rt.write_all(&out[0..at]).is_ok() {
-            return true;
+    if out.len() < at {
+        notes::unwritten(rt);
+        return false;
+    }
+    match rt.write_all(&out[0..at]) {
+        Ok(()) => true,
+        Err(error) => {
+            notes::unprinted(rt, error);
+            false
         }
     }
-    notes::unwritten(rt);
-    false
 }
 
 // How much of the answers still waits, and whether the others were lost.

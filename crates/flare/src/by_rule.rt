@@ -2,19 +2,25 @@
 ghost use Rattle.std.specs.Prelude.{◌<◌};
 ghost use Rattle.tool06.specs.Rules.{rule_count};
 
+use program::print;
 use tool06::Figures;
 
 // A line's text is that of the crate `summary`. Answers whether it could be printed.
-fn print_rule(rt: &impl Print, counts: [u32; Figures::RULES], rule: u8, words: &[u8]) -> bool
+fn print_rule(
+    rt: &(impl Print + Eprint),
+    counts: [u32; Figures::RULES],
+    rule: u8,
+    words: &[u8],
+) -> bool
     requires { rule < rule_count }
 {
     let mut line = [0u8; 163];
     let used = summary::put_rule(&mut line, 0, rule, counts[rule as usize], words);
-    rt.write_all(&line[0..used]).is_ok()
+    print(rt, &line, used)
 }
 
 // The rules that come before the method.
-fn print_operation(rt: &impl Print, counts: [u32; Figures::RULES]) -> bool {
+fn print_operation(rt: &(impl Print + Eprint), counts: [u32; Figures::RULES]) -> bool {
     print_rule(rt, counts, Figures::NO_GAS, b"no gas")
         && print_rule(rt, counts, Figures::NO_FLAME, b"no flame")
         && print_rule(rt, counts, Figures::OPEN, b"open flare")
@@ -29,7 +35,7 @@ fn print_operation(rt: &impl Print, counts: [u32; Figures::RULES]) -> bool {
 }
 
 // Answers whether all could be printed; nothing follows what could not.
-pub(crate) fn print_rules(rt: &impl Print, counts: [u32; Figures::RULES]) -> bool {
+pub(crate) fn print_rules(rt: &(impl Print + Eprint), counts: [u32; Figures::RULES]) -> bool {
     print_operation(rt, counts)
         && print_rule(rt, counts, Figures::DEFAULT, b"default method")
         && print_rule(rt, counts, Figures::OVERDUE, b"maintenance overdue")

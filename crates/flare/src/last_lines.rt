@@ -32,7 +32,6 @@ pub(crate) fn end(
     let counts = account.counts();
     if summary {
         if !print_rules(rt, counts) {
-            notes::unwritten(rt);
             return false;
         }
     }

@@ -9,4 +9,4 @@ mod streams;
 
 pub use minutes::refused_minute;
 pub use sites::{overdue, refused_site, understood};
-pub use streams::{unread, unwritten};
+pub use streams::{unprinted, unread, unwritten};

@@ -1,5 +1,6 @@
 // What is said where the input or the output fails.
 use crate::say;
+use std::io::{Error, ErrorKind};
 
 pub fn unread(rt: &impl Eprint) {
     say::text(
@@ -13,4 +14,11 @@ pub fn unwritten(rt: &impl Eprint) {
         rt,
         "flare: the output could not be written, and what stands there is not whole: make room for it and run again\n",
     );
+}
+
+// Of an output that nobody reads any more nothing is said.
+pub fn unprinted(rt: &impl Eprint, error: Error) {
+    if error.kind() != ErrorKind::BrokenPipe {
+        unwritten(rt);
+    }
 }

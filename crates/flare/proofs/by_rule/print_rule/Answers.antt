@@ -18,7 +18,7 @@ ruled :
     → PutFrom b at (rule_line rule minutes words) b' next × (next ≤ at + 163)
 ruled rule minutes words h put_is = let w = whole h put_is in (w, omega (arith, w.place, rule_uncut rule minutes words))
 
-pub slice_bounds-write_all-end : goal.slice_bounds-write_all-end
-slice_bounds-write_all-end g c =
+pub print-requires : goal.print-requires
+print-requires g c =
     let put = c.put_rule-used in
     omega (arith, put.auto.out, (ruled _ _ _ (omega arith) put.ensures).1)
