@@ -1,4 +1,6 @@
 -- What the calls keep of every account.
+use Rattle.std.specs.Prelude.{Result, Ok, Err}
+use Rattle.refusals.specs.declared.refusal.Refusal.{Refusal}
 use Prim.Native.Nat.{ℕ, ◌+◌, ◌-◌, ◌*◌, ◌/◌, ◌≤◌, ◌<◌}
 use mathlib.Core.Path.{◌≡◌, refl, sym, ap, subst, ◌∙◌}
 use mathlib.Core.Bool.{Bool, true, false, not}
@@ -8,7 +10,6 @@ use lib.Dec.{eqb}
 use lib.IntN.{ℤ}
 use lib.ListN.{length, length-set}
 use Rattle.refusals.specs.Tables.{first_of}
-use Rattle.refusals.specs.declared.verdict.Verdict.TheVariants.{Fine}
 use Rattle.site.specs.Rules.{year_minutes}
 use Rattle.site.specs.declared.Site.{Site}
 use Rattle.sums.specs.Sums.{no_sums, ◌⊞◌, one_if}
@@ -23,8 +24,6 @@ use Rattle.rows.proofs.Laws.{length_with_in, together_with_in, together_none, tw
 use Rattle.counts.proofs.Laws.{one_more_at, sum_more}
 use Rattle.tool06.specs.Tool.{Masses, Positive}
 use Rattle.tool06.specs.declared.figures.Figures.{Figures}
-use Rattle.tool06.specs.declared.figures.Judged.{Judged}
-use Rattle.tool06.specs.declared.figures.Judged.TheVariants.{Accepted, Refused}
 use Rattle.due.specs.Answer.{answer}
 use Rattle.account.specs.Adding.{due, worth, month_due, with_minute, after_answer, add_to}
 use Rattle.account.specs.Kept.{Kept}
@@ -121,20 +120,20 @@ pub kept_add : (m : Masses) → Positive m → {a : Account} → Kept a → (byt
 unfolding add_to
 kept_add m pos {a} kept bytes = by_answer (answer m (due a) bytes) refl
   where
-    by_answer : (j : Judged) → answer m (due a) bytes ≡ j → Kept (after_answer a j)
-    by_answer (Accepted f) e = let told = accepted m pos a (site_examined kept) bytes f e in kept_with kept told.0 told.1
-    by_answer (Refused r) e = kept
+    by_answer : (j : Result Figures Refusal) → answer m (due a) bytes ≡ j → Kept (after_answer a j)
+    by_answer (Ok f) e = let told = accepted m pos a (site_examined kept) bytes f e in kept_with kept told.0 told.1
+    by_answer (Err r) e = kept
 
 -- an accepted record is one minute more
 pub minutes_more : (a : Account) (f : Figures) → (with_minute a f).sums.minutes ≡ a.sums.minutes + 1
 unfolding with_minute ◌⊞◌
 minutes_more a f = ap (λ (n : ℕ). a.sums.minutes + n) (minutes_one f)
 
-pub minutes_on : (m : Masses) (a : Account) (bytes : List ℕ) (f : Figures) → answer m (due a) bytes ≡ Accepted f → (add_to m a bytes).account.sums.minutes ≡ a.sums.minutes + 1
+pub minutes_on : (m : Masses) (a : Account) (bytes : List ℕ) (f : Figures) → answer m (due a) bytes ≡ Ok f → (add_to m a bytes).account.sums.minutes ≡ a.sums.minutes + 1
 unfolding add_to
 minutes_on m a bytes f e = rw e (minutes_more a f)
 
-pub fresh_kept : (s : Site) (days : List ℤ) → first_of (open_lines s days) ≡ Fine → Kept (fresh s days)
+pub fresh_kept : (s : Site) (days : List ℤ) → first_of (open_lines s days) ≡ Ok tt → Kept (fresh s days)
 unfolding fresh no_sums
 fresh_kept s days fine = record {
   opens = opens_kept s days fine;
@@ -154,7 +153,7 @@ unfolding opened fresh
 only-opened s days = (λ k. as_given s days k.list_kept k.opens, fresh_kept s days)
 
 -- what opening gave is kept where it refused nothing
-pub opened_kept : (s : Site) (days : List ℤ) {o : Opened} → o ≡ opened s days → o.verdict ≡ Fine → Kept o.account
+pub opened_kept : (s : Site) (days : List ℤ) {o : Opened} → o ≡ opened s days → o.verdict ≡ Ok tt → Kept o.account
 opened_kept s days {o} is fine = rw is ((only-opened s days).1 (ap (λ (x : Opened). x.verdict) (sym is) ∙ fine))
 
 pub refused_stays : RefusedStays

@@ -6,18 +6,18 @@ ghost use Rattle.account.specs.scaffold.Small.{Small};
 ghost use Rattle.site.specs.Rules.{year_minutes};
 ghost use Rattle.tool06.specs.Tool.{Masses, Positive};
 ghost use Rattle.tool06.specs.declared.figures.Figures.{Figures};
-ghost use Rattle.tool06.specs.declared.figures.Judged.TheVariants.{Accepted};
 
 use crate::Account;
 use due::Due;
+use refusals::Refusal;
 use site::Site;
 use sums::Sums;
-use tool06::{Figures, Judged};
+use tool06::Figures;
 
-// The answer, and the account after it: an enum cannot hold the account's arrays.
+// The answer, and the account after it.
 #[derive(Clone, Copy)]
 pub struct Added {
-    pub answer: Judged,
+    pub answer: Result<Figures, Refusal>,
     pub account: Account,
 }
 
@@ -78,14 +78,14 @@ impl Account {
     }
 
     // The account after an answer: a refusal leaves it as it is.
-    fn after(self, answer: Judged) -> Account
+    fn after(self, answer: Result<Figures, Refusal>) -> Account
         requires kept { Kept self }
-        requires small { (f : Figures) → answer ≡ Accepted f → Small f × (self.sums.minutes < year_minutes self.site.year) }
+        requires small { (f : Figures) → answer ≡ Ok f → Small f × (self.sums.minutes < year_minutes self.site.year) }
         ensures { result ≡ after_answer self answer }
     {
         match answer {
-            Judged::Accepted(figures) => self.with_minute(figures),
-            Judged::Refused(_) => self,
+            Ok(figures) => self.with_minute(figures),
+            Err(_) => self,
         }
     }
 

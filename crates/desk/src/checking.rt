@@ -3,19 +3,19 @@ ghost use Rattle.account.specs.Kept.{Kept};
 
 use account::Account;
 use answers::{answer, put};
-use run::Checked;
+use run::Refused;
 
 pub(crate) fn check(account: Account, records: &[u8], out: &mut [u8], at: usize) -> usize
     requires { Kept account }
 {
     match run::check_run(account, records) {
-        Checked::Fine => put::text(out, at, b"fine\n"),
-        Checked::Run(refusal) => put::refused(out, at, refusal),
-        Checked::At {
+        Ok(()) => put::text(out, at, b"fine\n"),
+        Err(Refused::Run(refusal)) => put::refused(out, at, refusal),
+        Err(Refused::At {
             day,
             minute,
             refusal,
-        } => answer(
+        }) => answer(
             out,
             at,
             b"day %u minute %u refused %u\n",

@@ -6,8 +6,7 @@ use crate::turn::{Desk, Turn, no_account};
 use account::{Account, Added};
 use answers::answer;
 use forms::take::part;
-use refusals::Verdict;
-use tool06::Judged;
+use refusals::Refusal;
 
 // Adds a record; every account that the calls give stays one.
 fn add_to(account: Account, record: &[u8]) -> Added
@@ -46,7 +45,7 @@ pub fn add(desk: Desk, record: &[u8], out: &mut [u8], at: usize) -> Turn
 struct Filled {
     account: Account,
     taken: u32,
-    verdict: Verdict,
+    verdict: Result<(), Refusal>,
 }
 
 // Adds the record of so many bytes a number of times, each time under the minute expected, up to a refusal.
@@ -60,11 +59,11 @@ fn fill_up(account: Account, count: u32, bytes: &mut [u8], size: usize) -> Fille
         numbers::put_u32(bytes, 3, current.minutes());
         let added = add_to(current, part(bytes, 0, size));
         let answer = added.answer;
-        if let Judged::Refused(refusal) = answer {
+        if let Err(refusal) = answer {
             return Filled {
                 account: current,
                 taken,
-                verdict: Verdict::Refuse(refusal),
+                verdict: Result<(), Refusal>::Refuse(refusal),
             };
         }
         current = added.account;
@@ -73,14 +72,14 @@ fn fill_up(account: Account, count: u32, bytes: &mut [u8], size: usize) -> Fille
     Filled {
         account: current,
         taken,
-        verdict: Verdict::Fine,
+        verdict: Result<(), Refusal>::Fine,
     }
 }
 
-fn put_filled(out: &mut [u8], at: usize, taken: u32, minute: u32, verdict: Verdict) -> usize {
+fn put_filled(out: &mut [u8], at: usize, taken: u32, minute: u32, verdict: Result<(), Refusal>) -> usize {
     match verdict {
-        Verdict::Fine => answer(out, at, b"taken %u\n", &[taken as u64]),
-        Verdict::Refuse(refusal) => answer(
+        Ok(()) => answer(out, at, b"taken %u\n", &[taken as u64]),
+        Err(refusal) => answer(
             out,
             at,
             b"taken %u minute %u refused %u\n",

@@ -9,8 +9,7 @@ use forms::call::call_of;
 use forms::expected;
 use forms::take::{Fit, SIGNED};
 use refusals::Verdict;
-use site::{Site, SiteRead};
-use words::Number;
+use site::Site;
 
 // One day more than may be listed: a list of more is refused whatever they are, so its first 65 stand for it.
 const DAYS: usize = 65;
@@ -43,7 +42,7 @@ fn days_in(line: &[u8], end: usize) -> Listed
     while end < line.len() {
         let from = end + 1;
         end = words::end_of_word(line, from);
-        let Number::Is(day) = words::signed_in(&line[from..end]) else {
+        let Some(day) = words::signed_in(&line[from..end]) else {
             return none(Fit::Wrong {
                 place: DAY,
                 kind: SIGNED,
@@ -112,8 +111,8 @@ fn with_list(desk: Desk, record: &[u8], days: &[i16], out: &mut [u8], at: usize)
     ensures { Ready result.desk }
 {
     match reading::read_site(record) {
-        SiteRead::Fields(site) => with_site(desk, site, days, out, at),
-        SiteRead::Refused(refusal) => Turn {
+        Ok(site) => with_site(desk, site, days, out, at),
+        Err(refusal) => Turn {
             desk,
             at: put::refused(out, at, refusal),
         },

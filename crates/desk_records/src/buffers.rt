@@ -2,7 +2,7 @@
 use answers::{answer, put};
 use forms::take::{u16_of, u32_of};
 use minute::{Gas, Minute, Readings};
-use refusals::Verdict;
+use refusals::Refusal;
 use site::{Flows, Site, Temperatures};
 
 const BEFORE: u8 = 165;
@@ -23,10 +23,10 @@ fn i16_of(value: usize) -> i16 {
     numbers::signed(u16_of(value))
 }
 
-fn put_verdict(out: &mut [u8], at: usize, verdict: Verdict) -> usize {
+fn put_verdict(out: &mut [u8], at: usize, verdict: Result<(), Refusal>) -> usize {
     match verdict {
-        Verdict::Fine => put::text(out, at, b"wrote"),
-        Verdict::Refuse(refusal) => answer(out, at, b"refused %u", &[refusal.number() as u64]),
+        Ok(()) => put::text(out, at, b"wrote"),
+        Err(refusal) => answer(out, at, b"refused %u", &[refusal.number() as u64]),
     }
 }
 

@@ -1,7 +1,7 @@
 // The calls that read a record: `site`, `minute` and `class`.
 use answers::{answer, put};
-use minute::{Minute, MinuteRead};
-use site::{Site, SiteRead};
+use minute::Minute;
+use site::Site;
 use tool06::Class;
 
 fn put_site(out: &mut [u8], at: usize, site: Site) -> usize {
@@ -29,8 +29,8 @@ fn put_site(out: &mut [u8], at: usize, site: Site) -> usize {
 
 pub(crate) fn site(record: &[u8], out: &mut [u8], at: usize) -> usize {
     match reading::read_site(record) {
-        SiteRead::Fields(site) => put_site(out, at, site),
-        SiteRead::Refused(refusal) => put::refused(out, at, refusal),
+        Ok(site) => put_site(out, at, site),
+        Err(refusal) => put::refused(out, at, refusal),
     }
 }
 
@@ -63,8 +63,8 @@ fn put_minute(out: &mut [u8], at: usize, minute: Minute) -> usize {
 
 pub(crate) fn minute(record: &[u8], out: &mut [u8], at: usize) -> usize {
     match reading::read_minute(record) {
-        MinuteRead::Fields(minute) => put_minute(out, at, minute),
-        MinuteRead::Refused(refusal) => put::refused(out, at, refusal),
+        Ok(minute) => put_minute(out, at, minute),
+        Err(refusal) => put::refused(out, at, refusal),
     }
 }
 
@@ -78,7 +78,7 @@ fn put_class(out: &mut [u8], at: usize, class: Class) -> usize {
 
 pub(crate) fn class(record: &[u8], out: &mut [u8], at: usize) -> usize {
     match reading::read_site(record) {
-        SiteRead::Fields(site) => put_class(out, at, rules::class_of(site)),
-        SiteRead::Refused(refusal) => put::refused(out, at, refusal),
+        Ok(site) => put_class(out, at, rules::class_of(site)),
+        Err(refusal) => put::refused(out, at, refusal),
     }
 }

@@ -3,16 +3,15 @@
 
 ghost use Rattle.account.specs.Kept.{Kept};
 
-use account::{Account, Closed};
+use account::Account;
 use answers::{answer, put};
-use by_month::Asked;
 
 pub fn month(account: Account, month: u32, out: &mut [u8], at: usize) -> usize
     requires { Kept account }
 {
     match by_month::month(account, month) {
-        Asked::Is(_) => month_line::put_month(out, at, account, month),
-        Asked::Refused(refusal) => put::refused(out, at, refusal),
+        Ok(_) => month_line::put_month(out, at, account, month),
+        Err(refusal) => put::refused(out, at, refusal),
     }
 }
 
@@ -29,8 +28,8 @@ pub fn close(account: Account, out: &mut [u8], at: usize) -> usize
     requires { Kept account }
 {
     match account.close() {
-        Closed::Tonnes(_) => sheet::put_year(out, at, account),
-        Closed::Refused(refusal) => put::refused(out, at, refusal),
+        Ok(_) => sheet::put_year(out, at, account),
+        Err(refusal) => put::refused(out, at, refusal),
     }
 }
 

@@ -1,8 +1,6 @@
 // Taking the words of a call from its line.
 ghost use Rattle.std.specs.Prelude.{◌≤◌, length};
 
-use words::Number;
-
 // The kinds of words: a number of one or two bytes and, by any other letter, of four; one of two bytes with a sign; bytes in hexadecimal.
 const BYTE: u8 = 49;
 
@@ -36,27 +34,18 @@ pub struct Taken {
     pub fit: Fit,
 }
 
-#[derive(Clone, Copy)]
-enum Value {
-    Is(usize),
-    Wrong,
-}
-
-fn of_number(number: Number) -> Value {
-    match number {
-        Number::Is(n) => Value::Is(n as usize),
-        Number::Wrong => Value::Wrong,
-    }
+fn of_number(number: Option<u32>) -> Option<usize> {
+    Some(number? as usize)
 }
 
 // The bytes that a word spells, put from a place on.
-fn of_hex(word: &[u8], bytes: &mut [u8], at: usize) -> Value {
+fn of_hex(word: &[u8], bytes: &mut [u8], at: usize) -> Option<usize> {
     if at <= bytes.len() {
         if words::put_bytes(word, &mut bytes[at..]) {
-            return Value::Is(word.len() / 2);
+            return Some(word.len() / 2);
         }
     }
-    Value::Wrong
+    None
 }
 
 // The most that a number without a sign may be.
@@ -68,7 +57,7 @@ pub(crate) fn most_of(kind: u8) -> u32 {
     }
 }
 
-fn value_of(word: &[u8], kind: u8, bytes: &mut [u8]) -> Value {
+fn value_of(word: &[u8], kind: u8, bytes: &mut [u8]) -> Option<usize> {
     match kind {
         HEX => of_hex(word, bytes, 0),
         SECOND => of_hex(word, bytes, SECOND_AT),
@@ -97,7 +86,7 @@ pub fn take(line: &[u8], end: usize, kinds: &[u8], bytes: &mut [u8]) -> Taken
         end = words::end_of_word(line, from);
         let kind = kinds[place];
         match value_of(&line[from..end], kind, bytes) {
-            Value::Wrong => return Taken {
+            None => return Taken {
                 values,
                 end,
                 fit: Fit::Wrong {
@@ -105,7 +94,7 @@ pub fn take(line: &[u8], end: usize, kinds: &[u8], bytes: &mut [u8]) -> Taken
                     kind,
                 },
             },
-            Value::Is(value) => {
+            Some(value) => {
                 if place < MOST {
                     values[place] = value;
                 }

@@ -7,9 +7,9 @@ ghost use Rattle.tool06.specs.Tool.{Masses, Positive};
 ghost use Rattle.host.specs.Single.{since_in_time, answer_bytes, single, returned, answer_after};
 
 use minute::Minute;
-use refusals::{Refusal, Verdict};
-use site::{Site, SiteRead};
-use tool06::{Figures, Judged};
+use refusals::Refusal;
+use site::Site;
+use tool06::Figures;
 
 fn in_time(site: Site, days: u16) -> bool
     ensures { result ≡ since_in_time site days }
@@ -35,6 +35,13 @@ fn fill(answer: &mut [u8], figures: Figures)
     numbers::put_byte(answer, 24, figures.rule);
 }
 
+// The figures, or the first of the refusals 1 to 9 and the minute's 1, 2 and 12 to 19.
+fn judged(site: &[u8], minute: &[u8], days: u16) -> Result<Figures, Refusal> {
+    let site = reading::read_site(site)?;
+    records::head(minute, Minute::BYTES, Minute::VERSION)?;
+    judge::judge_single(site, reading::minute_in(minute), in_time(site, days))
+}
+
 // 0 and the answer, or the number of the first of the refusals 22, 1 to 9, the minute's 1, 2 and 12 to 19, and the buffer as it was.
 pub fn flare_minute(site: &[u8], minute: &[u8], days: u16, answer: &mut [u8]) -> u8
     ensures { (result ≡ returned (single site.now minute.now answer.old)) × ((m : Masses) → Positive m → answer.new ≡ answer_after m site.now minute.now days answer.old) }
@@ -42,24 +49,11 @@ pub fn flare_minute(site: &[u8], minute: &[u8], days: u16, answer: &mut [u8]) ->
     if answer.len() != Figures::ANSWER_BYTES {
         return Refusal::Buffer.number();
     }
-    match reading::read_site(site) {
-        SiteRead::Refused(r) => r.number(),
-        SiteRead::Fields(fields) => match records::head(minute, Minute::BYTES, Minute::VERSION) {
-            Verdict::Refuse(r) => r.number(),
-            Verdict::Fine => {
-                let judged = judge::judge_single(
-                    fields,
-                    reading::minute_in(minute),
-                    in_time(fields, days),
-                );
-                match judged {
-                    Judged::Refused(r) => r.number(),
-                    Judged::Accepted(figures) => {
-                        fill(answer, figures);
-                        0
-                    }
-                }
-            }
-        },
+    match judged(site, minute, days) {
+        Err(r) => r.number(),
+        Ok(figures) => {
+            fill(answer, figures);
+            0
+        }
     }
 }

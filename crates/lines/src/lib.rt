@@ -9,7 +9,7 @@ ghost use Rattle.lines.specs.Lines.{methane, accepted_line, refused_line, minute
 use refusals::Refusal;
 use room::room;
 use text::{put_decimal, put_text};
-use tool06::{Figures, Judged};
+use tool06::Figures;
 
 // No line is longer.
 pub const LONGEST: usize = 163;
@@ -52,13 +52,13 @@ fn put_refused(out: &mut [u8], at: usize, minute: u32, refusal: Refusal) -> usiz
 }
 
 // A minute's line: its figures, or its refusal. Answers the place after the line; without room for any line nothing is put, and that is at.
-pub fn put_minute(out: &mut [u8], at: usize, minute: u32, answer: Judged) -> usize
+pub fn put_minute(out: &mut [u8], at: usize, minute: u32, answer: Result<Figures, Refusal>) -> usize
     ensures { (result ≡ place_after out.old at (minute_line minute answer)) × (out.new ≡ placed out.old at (minute_line minute answer)) }
 {
     if LONGEST <= room(out, at) {
         match answer {
-            Judged::Accepted(figures) => put_accepted(out, at, minute, figures),
-            Judged::Refused(refusal) => put_refused(out, at, minute, refusal),
+            Ok(figures) => put_accepted(out, at, minute, figures),
+            Err(refusal) => put_refused(out, at, minute, refusal),
         }
     } else {
         at

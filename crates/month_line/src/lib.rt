@@ -9,7 +9,7 @@ ghost use Rattle.room.specs.Places.{placed, place_after};
 ghost use Rattle.month_line.specs.Line.{row_line, month_line};
 
 use account::Account;
-use by_month::{Asked, Row};
+use by_month::Row;
 use lines::LONGEST;
 use room::room;
 use sheet::{put_count, put_sums};
@@ -33,13 +33,13 @@ pub fn put_month(out: &mut [u8], at: usize, account: Account, month: u32) -> usi
     ensures { (result ≡ place_after out.old at (month_line account month)) × (out.new ≡ placed out.old at (month_line account month)) }
 {
     match by_month::month(account, month) {
-        Asked::Is(row) => {
+        Ok(row) => {
             if LONGEST <= room(out, at) {
                 put_row(out, at, month, row)
             } else {
                 at
             }
         }
-        Asked::Refused(_) => at,
+        Err(_) => at,
     }
 }

@@ -12,9 +12,8 @@ ghost use Rattle.monthly.specs.Monthly.{first_months, month_sheet};
 
 use account::Account;
 use month_line::put_month;
-use refusals::Verdict;
+use refusals::Refusal;
 use rows::MONTHS;
-use tool06::Judged;
 
 fn put_months(out: &mut [u8], account: Account) -> usize
     requires kept { Kept account }
@@ -32,17 +31,17 @@ fn put_months(out: &mut [u8], account: Account) -> usize
 }
 
 // The line of the minute that was refused, if one was.
-fn put_last(out: &mut [u8], at: usize, expected: u32, verdict: Verdict) -> usize
+fn put_last(out: &mut [u8], at: usize, expected: u32, verdict: Result<(), Refusal>) -> usize
     ensures { (result ≡ place_after out.old at (last_line expected verdict)) × (out.new ≡ placed out.old at (last_line expected verdict)) }
 {
     match verdict {
-        Verdict::Fine => at,
-        Verdict::Refuse(refusal) => lines::put_minute(out, at, expected, Judged::Refused(refusal)),
+        Ok(()) => at,
+        Err(refusal) => lines::put_minute(out, at, expected, Err(refusal)),
     }
 }
 
 // All that is printed of an account and of how the reading ended. Answers how many bytes it put.
-pub fn put_sheet(out: &mut [u8], account: Account, verdict: Verdict) -> usize
+pub fn put_sheet(out: &mut [u8], account: Account, verdict: Result<(), Refusal>) -> usize
     requires kept { Kept account }
     requires out_len { length out.old ≡ 65536 }
     ensures value { (result ≡ length (month_sheet account verdict)) × (out.new ≡ put out.old 0 (month_sheet account verdict)) }

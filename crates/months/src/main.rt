@@ -10,12 +10,12 @@ use account::Account;
 use in_turn::add_all;
 use monthly::put_sheet;
 use program::{BUFFERS, Ended, Outcome, begin, conclude, fill, is_last, print, tell};
-use refusals::Verdict;
+use refusals::Refusal;
 use report::RECORDS;
 use std::io::Read;
 
 // All that is printed, once no record follows.
-fn finish(rt: &(impl Print + Eprint), account: Account, verdict: Verdict, out: &mut [u8]) -> Outcome
+fn finish(rt: &(impl Print + Eprint), account: Account, verdict: Result<(), Refusal>, out: &mut [u8]) -> Outcome
     requires kept { Kept account }
     requires out_len { length out.old ≡ 65536 }
     ensures { out.new ≡ put out.old 0 (month_sheet account verdict) }
@@ -45,7 +45,7 @@ fn run(
         // A record that a failed read cuts short was not cut by the input's end, so nothing is printed.
         if filled.failed {
             notes::unread(rt);
-            return Ended::of(Outcome::Failed, Verdict::Fine, current, 0);
+            return Ended::of(Outcome::Failed, Ok(()), current, 0);
         }
         let n = filled.bytes;
         let added = add_all(current, &records[0..n]);
@@ -55,7 +55,7 @@ fn run(
             return Ended::of(finish(rt, current, verdict, out), verdict, current, n);
         }
     }
-    Ended::of(Outcome::More, Verdict::Fine, current, 0)
+    Ended::of(Outcome::More, Ok(()), current, 0)
 }
 
 // The input, from its site on.

@@ -1,11 +1,9 @@
 // The input's beginning: the site, and an account of it.
 ghost use Rattle.std.specs.Prelude.{◌≡◌, length};
-ghost use Rattle.refusals.specs.declared.verdict.Verdict.TheVariants.{Fine};
 ghost use Rattle.account.specs.Kept.{Kept};
 ghost use Rattle.exact.specs.Bytes.{put};
 ghost use Rattle.lines.specs.Lines.{site_line};
 ghost use Rattle.site.specs.Record.{site_of, read_site};
-ghost use Rattle.site.specs.declared.SiteRead.TheVariants.{Fields};
 
 use crate::outcome::Outcome;
 use crate::streams::{fill, print};
@@ -60,7 +58,7 @@ fn receive(
     out: &mut [u8],
 ) -> Outcome
     requires { length out.old ≡ 65536 }
-    ensures { result ≡ Outcome.More → (verdict ≡ Fine) × (read_site bytes.now ≡ Fields (site_of bytes.now)) }
+    ensures { result ≡ Outcome.More → (verdict ≡ Ok tt) × (read_site bytes.now ≡ Ok (site_of bytes.now)) }
 {
     match reading::read_site(bytes) {
         SiteRead::Refused(refusal) => refuse(rt, refusal, bytes, out),

@@ -3,7 +3,7 @@ ghost use Rattle.account.specs.Kept.{Kept};
 
 use account::Account;
 use minute::Minute;
-use refusals::{Refusal, Verdict};
+use refusals::Refusal;
 use report::MINUTES;
 use site::Site;
 use std::rt::{Env, Files};
@@ -38,7 +38,7 @@ pub fn tell(rt: &(impl Env + Files), outcome: Outcome) {
 #[derive(Clone, Copy)]
 pub struct Ended {
     outcome: Outcome,
-    verdict: Verdict,
+    verdict: Result<(), Refusal>,
     site: Site,
     expected: u32,
     overdue: u32,
@@ -46,7 +46,7 @@ pub struct Ended {
 }
 
 impl Ended {
-    pub fn of(outcome: Outcome, verdict: Verdict, account: Account, bytes: usize) -> Ended
+    pub fn of(outcome: Outcome, verdict: Result<(), Refusal>, account: Account, bytes: usize) -> Ended
         requires { Kept account }
     {
         let site = account.site();
@@ -84,8 +84,8 @@ pub fn conclude(rt: &impl Eprint, ended: Ended, records: &[u8]) -> Outcome {
     }
     let verdict = ended.verdict;
     match verdict {
-        Verdict::Fine => Outcome::Well,
-        Verdict::Refuse(refusal) => {
+        Ok(()) => Outcome::Well,
+        Err(refusal) => {
             explain(rt, refusal, ended, records);
             Outcome::Refused
         }

@@ -2,23 +2,17 @@
 ghost use Rattle.std.specs.Prelude.{◌≡◌};
 ghost use Rattle.minute.specs.Record.{minute_of, read_minute};
 
-use minute::{Gas, Minute, MinuteRead, Readings};
-use refusals::Verdict;
+use minute::{Gas, Minute, Readings};
+use refusals::Refusal;
 
 // The fields, or the first of the refusals 1, 2 and 12 to 18, with 13 for a minute that no year has.
-pub fn read_minute(bytes: &[u8]) -> MinuteRead
+pub fn read_minute(bytes: &[u8]) -> Result<Minute, Refusal>
     ensures { result ≡ read_minute bytes.now }
 {
-    match records::head(bytes, Minute::BYTES, Minute::VERSION) {
-        Verdict::Refuse(r) => MinuteRead::Refused(r),
-        Verdict::Fine => {
-            let minute = minute_in(bytes);
-            match minute.alone() {
-                Verdict::Fine => MinuteRead::Fields(minute),
-                Verdict::Refuse(r) => MinuteRead::Refused(r),
-            }
-        }
-    }
+    records::head(bytes, Minute::BYTES, Minute::VERSION)?;
+    let minute = minute_in(bytes);
+    minute.alone()?;
+    Ok(minute)
 }
 
 fn gas_in(b: &[u8]) -> Gas

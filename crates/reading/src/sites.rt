@@ -2,23 +2,17 @@
 ghost use Rattle.std.specs.Prelude.{◌≡◌};
 ghost use Rattle.site.specs.Record.{site_of, read_site};
 
-use refusals::Verdict;
-use site::{Flows, Site, SiteRead, Temperatures};
+use refusals::Refusal;
+use site::{Flows, Site, Temperatures};
 
 // The fields, or the first of the refusals 1 to 9.
-pub fn read_site(bytes: &[u8]) -> SiteRead
+pub fn read_site(bytes: &[u8]) -> Result<Site, Refusal>
     ensures { result ≡ read_site bytes.now }
 {
-    match records::head(bytes, Site::BYTES, Site::VERSION) {
-        Verdict::Refuse(r) => SiteRead::Refused(r),
-        Verdict::Fine => {
-            let site = site_in(bytes);
-            match site.verdict() {
-                Verdict::Fine => SiteRead::Fields(site),
-                Verdict::Refuse(r) => SiteRead::Refused(r),
-            }
-        }
-    }
+    records::head(bytes, Site::BYTES, Site::VERSION)?;
+    let site = site_in(bytes);
+    site.verdict()?;
+    Ok(site)
 }
 
 // The fields of a record's bytes, not yet examined.

@@ -10,12 +10,12 @@ use numbers::{byte_at, put_byte, put_u16, u16_at};
 use refusals::{Refusal, Verdict};
 
 // The first of the refusals 1 and 2 of bytes that should be a record of so many bytes and of that version.
-pub fn head(b: &[u8], size: usize, version: u8) -> Verdict
+pub fn head(b: &[u8], size: usize, version: u8) -> Result<(), Refusal>
     ensures { result ≡ first_of (head_lines size version b.now) }
 {
     let whole = u16_at(b, 0) as usize + 2;
     let first = byte_at(b, 2);
-    Verdict::Fine
+    Ok(())
         .also((b.len() != size) | (whole != size), Refusal::Length)
         .also(first != version, Refusal::Version)
 }

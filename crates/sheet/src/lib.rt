@@ -9,8 +9,9 @@ ghost use Rattle.text.specs.Text.{decimal};
 ghost use Rattle.room.specs.Places.{placed, place_after};
 ghost use Rattle.sheet.specs.Sheet.{sums_text, total_line, standing, year_line};
 
-use account::{Account, Closed};
+use account::Account;
 use lines::{LONGEST, put_methane};
+use refusals::Refusal;
 use room::room;
 use sums::Sums;
 use text::{put_decimal, put_text};
@@ -56,17 +57,17 @@ pub fn put_total(out: &mut [u8], at: usize, account: Account) -> usize
 }
 
 // Whether the year is open, or the tonnes that it closed with.
-fn put_standing(out: &mut [u8], at: usize, closed: Closed) -> usize
+fn put_standing(out: &mut [u8], at: usize, closed: Result<u64, Refusal>) -> usize
     requires { at + 28 ≤ length out.old }
     ensures put_from { PutFrom out.old at (standing closed) out.new result }
     ensures within { result ≤ at + 28 }
 {
     match closed {
-        Closed::Tonnes(tonnes) => {
+        Ok(tonnes) => {
             let at = put_text(out, at, b" tonnes ");
             put_decimal(out, at, tonnes)
         }
-        Closed::Refused(_) => put_text(out, at, b" open"),
+        Err(_) => put_text(out, at, b" open"),
     }
 }
 

@@ -1,11 +1,10 @@
 -- R8, R51, R52: the ranges of a site's fields, and its refusals 3 to 9 in their order.
-use Rattle.std.specs.Prelude.{ℕ, ◌*◌, ◌%◌, ◌≡◌, Bool, true, false, ◌||◌, ◌&&◌, not, List, [], ◌∷◌, ltb, leb, eqb}
+use Rattle.std.specs.Prelude.{Ok, ℕ, ◌*◌, ◌%◌, ◌≡◌, Bool, true, false, ◌||◌, ◌&&◌, not, List, [], ◌∷◌, ltb, leb, eqb}
 use Rattle.std.specs.Int.Signed.{lt_z}
 use Rattle.exact.specs.Ranges.{above, outside}
 use Rattle.records.specs.Ranges.{temperature_outside, flow_outside}
 use Rattle.refusals.specs.Tables.{Line, when, first_of}
 use Rattle.refusals.specs.declared.refusal.Refusal.TheVariants.{Method, Year, Gwp, Size, Spec, Open, Schedule}
-use Rattle.refusals.specs.declared.verdict.Verdict.TheVariants.{Fine}
 use Rattle.site.specs.declared.Temperatures.{Temperatures}
 use Rattle.site.specs.declared.Flows.{Flows}
 use Rattle.site.specs.declared.Site.{Site}
@@ -76,4 +75,4 @@ site_lines s =
 
 -- R52, R57: none of 3 to 9
 abbrev pub Examined : Site → Type 0
-Examined s = first_of (site_lines s) ≡ Fine
+Examined s = first_of (site_lines s) ≡ Ok tt

@@ -5,7 +5,7 @@ ghost use Rattle.std.specs.Prelude.{◌≡◌};
 ghost use Rattle.refusals.specs.Tables.{first_of};
 ghost use Rattle.site.specs.Rules.{temperatures_wrong, flows_wrong, is_open, year_minutes, site_lines};
 
-use refusals::{Refusal, Verdict};
+use refusals::Refusal;
 
 // Tenths of a degree Celsius.
 #[derive(Clone, Copy)]
@@ -32,12 +32,6 @@ pub struct Site {
     pub temperature: Temperatures,
     pub flow: Flows,
     pub days: u16,
-}
-
-#[derive(Clone, Copy)]
-pub enum SiteRead {
-    Fields(Site),
-    Refused(Refusal),
 }
 
 impl Site {
@@ -107,36 +101,36 @@ impl Site {
     }
 
     // The first of the refusals 3 to 9 of the fields.
-    pub fn verdict(self) -> Verdict
+    pub fn verdict(self) -> Result<(), Refusal>
         ensures { result ≡ first_of (site_lines self) }
     {
         let measured = self.method == Site::MEASURED;
         let temperature = self.temperature;
         let flow = self.flow;
         if !((self.method == Site::DEFAULT) | measured) {
-            return Verdict::Refuse(Refusal::Method);
+            return Err(Refusal::Method);
         }
         if (self.year < Site::FIRST_YEAR) | (Site::LAST_YEAR < self.year) {
-            return Verdict::Refuse(Refusal::Year);
+            return Err(Refusal::Year);
         }
         if (self.gwp < Site::LEAST_GWP) | (Site::MOST_GWP < self.gwp) {
-            return Verdict::Refuse(Refusal::Gwp);
+            return Err(Refusal::Gwp);
         }
         if (Site::MOST_HEIGHT < self.height)
             | ((self.diameter < Site::LEAST_DIAMETER) | (Site::MOST_DIAMETER < self.diameter))
         {
-            return Verdict::Refuse(Refusal::Size);
+            return Err(Refusal::Size);
         }
         if temperature.wrong() | flow.wrong() {
-            return Verdict::Refuse(Refusal::Spec);
+            return Err(Refusal::Spec);
         }
         if measured & self.is_open() {
-            return Verdict::Refuse(Refusal::Open);
+            return Err(Refusal::Open);
         }
         if (Site::MOST_DAYS < self.days) | (measured & (self.days < Site::LEAST_DAYS_MEASURED)) {
-            return Verdict::Refuse(Refusal::Schedule);
+            return Err(Refusal::Schedule);
         }
-        Verdict::Fine
+        Ok(())
     }
 }
 

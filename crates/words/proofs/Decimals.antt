@@ -1,4 +1,5 @@
 -- The number that a word spells, one byte at a time.
+use Rattle.std.specs.Prelude.{Some, None}
 use Prim.Native.Nat.{ℕ, ◌+◌, ◌-◌, ◌*◌, ◌≤◌, ◌<◌}
 use mathlib.Core.Path.{◌≡◌, refl}
 use mathlib.Core.Bool.{Bool, true, false, cond}
@@ -7,7 +8,6 @@ use native.Mathlib.Omega.{arith}
 use lib.ListN.{length, get_or, drop}
 use borrow.Author.Tests.{le-leb, lt-leb}
 use Rattle.words.specs.Numbers.{is_digit, spelled_on, number_in}
-use Rattle.words.specs.declared.number.Number.TheVariants.{Is, Wrong}
 use Rattle.words.proofs.Walking.{here, over}
 
 either_way : {A : Type 0} (b : Bool) {x y w : A} → x ≡ w → y ≡ w → cond b x y ≡ w
@@ -15,7 +15,7 @@ either_way true e f = e
 either_way false e f = f
 
 -- what is too much stays too much
-pub spelled_much : (most a : ℕ) (cs : List ℕ) → most < a → spelled_on most a cs ≡ Wrong
+pub spelled_much : (most a : ℕ) (cs : List ℕ) → most < a → spelled_on most a cs ≡ None
 unfolding spelled_on
 spelled_much most a [] h = rw (lt-leb a most h)
 spelled_much most a (c ∷ cs) h = either_way (is_digit c) (spelled_much most (a * 10 + (c - 48)) cs (omega arith)) refl
@@ -26,16 +26,16 @@ module _ (t : List ℕ) (i most a : ℕ) where
   unfolding spelled_on
   spelled-more h d g = rw (here t i h, d, g)
 
-  pub spelled_not : i < length t → is_digit (get_or t i 0) ≡ false → spelled_on most a (drop i t) ≡ Wrong
+  pub spelled_not : i < length t → is_digit (get_or t i 0) ≡ false → spelled_on most a (drop i t) ≡ None
   unfolding spelled_on
   spelled_not h d = rw (here t i h, d)
 
-  pub spelled_end : length t ≤ i → a ≤ most → spelled_on most a (drop i t) ≡ Is a
+  pub spelled_end : length t ≤ i → a ≤ most → spelled_on most a (drop i t) ≡ Some a
   unfolding spelled_on
   spelled_end h g = rw (over t i h, le-leb a most g)
 
 module _ (most : ℕ) where
-  pub of_none : (t : List ℕ) → length t ≡ 0 → number_in most t ≡ Wrong
+  pub of_none : (t : List ℕ) → length t ≡ 0 → number_in most t ≡ None
   unfolding number_in
   of_none [] e = refl
   of_none (c ∷ t) e = absurd (omega arith)

@@ -1,4 +1,5 @@
 -- A number with its sign.
+use Rattle.std.specs.Prelude.{Option, Some, None}
 use Prim.Native.Nat.{ℕ, suc, ◌-◌, ◌%◌, ◌≤◌, ◌<◌}
 use mathlib.Core.Path.{◌≡◌, refl}
 use mathlib.Core.List.{List, [], ◌∷◌}
@@ -7,15 +8,13 @@ use lib.ListN.{length, get_or, take, drop}
 use lib.Seq.{take_all}
 use borrow.Author.Tests.{le-leb, lt-leb, eq-eqb, ne_eqb}
 use Rattle.words.specs.Numbers.{number_in, negative, signed_of}
-use Rattle.words.specs.declared.number.Number.{Number}
-use Rattle.words.specs.declared.number.Number.TheVariants.{Is, Wrong}
 
-module _ (n : ℕ) (p : Number) (e : p ≡ Is n) where
-  pub negative_is : n ≤ 65536 → Is ((65536 - n) % 65536) ≡ negative p
+module _ (n : ℕ) (p : Option ℕ) (e : p ≡ Some n) where
+  pub negative_is : n ≤ 65536 → Some ((65536 - n) % 65536) ≡ negative p
   unfolding negative
   negative_is h = rw (e, le-leb n 65536 h)
 
-  pub negative_much : 65536 < n → Wrong ≡ negative p
+  pub negative_much : 65536 < n → None ≡ negative p
   unfolding negative
   negative_much h = rw (e, lt-leb n 65536 h)
 
@@ -29,7 +28,7 @@ unfolding signed_of
 without_sign [] h e = absurd (omega arith)
 without_sign (c ∷ t) h e = rw (ne_eqb c 45 e)
 
-pub no_number : (t : List ℕ) → length t ≤ 0 → Wrong ≡ signed_of t
+pub no_number : (t : List ℕ) → length t ≤ 0 → None ≡ signed_of t
 unfolding signed_of
 no_number [] h = refl
 no_number (c ∷ t) h = absurd (omega arith)

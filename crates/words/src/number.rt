@@ -2,12 +2,6 @@
 ghost use Rattle.std.specs.Prelude.{◌≡◌, true, ◌-◌, ◌≤◌};
 ghost use Rattle.words.specs.Numbers.{is_digit, number_in, negative, signed_of};
 
-#[derive(Clone, Copy)]
-pub enum Number {
-    Is(u32),
-    Wrong,
-}
-
 const MINUS: u8 = 45;
 
 fn is_digit(c: u8) -> bool
@@ -25,11 +19,11 @@ fn units(c: u8) -> u64
 }
 
 // The number that the word spells, where it is at most so much.
-pub fn number_in(word: &[u8], most: u32) -> Number
+pub fn number_in(word: &[u8], most: u32) -> Option<u32>
     ensures { result ≡ number_in most word.now }
 {
     if word.len() == 0 {
-        return Number::Wrong;
+        return None;
     }
     let limit = most as u64;
     let mut sum: u64 = 0;
@@ -37,34 +31,34 @@ pub fn number_in(word: &[u8], most: u32) -> Number
     while i < word.len() {
         let c = word[i];
         if !is_digit(c) {
-            return Number::Wrong;
+            return None;
         }
         sum = sum * 10 + units(c);
         if limit < sum {
-            return Number::Wrong;
+            return None;
         }
         i = i + 1;
     }
-    Number::Is(sum as u32)
+    Some(sum as u32)
 }
 
-fn negative(n: Number) -> Number
+fn negative(n: Option<u32>) -> Option<u32>
     ensures { result ≡ negative n }
 {
     match n {
-        Number::Is(n) => {
+        Some(n) => {
             if n <= 65536 {
-                Number::Is((65536 - n) % 65536)
+                Some((65536 - n) % 65536)
             } else {
-                Number::Wrong
+                None
             }
         }
-        Number::Wrong => Number::Wrong,
+        None => None,
     }
 }
 
 // A number from -32768 to 32767, as two bytes hold it.
-pub fn signed_in(word: &[u8]) -> Number
+pub fn signed_in(word: &[u8]) -> Option<u32>
     ensures { result ≡ signed_of word.now }
 {
     if 0 < word.len() {
@@ -74,5 +68,5 @@ pub fn signed_in(word: &[u8]) -> Number
         }
         return number_in(word, 32767);
     }
-    Number::Wrong
+    None
 }

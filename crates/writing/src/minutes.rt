@@ -8,19 +8,14 @@ use minute::Minute;
 use refusals::{Refusal, Verdict};
 
 // Puts the record into the buffer, or answers 22 or the first of the refusals 12 to 18 and leaves the buffer as it was.
-pub fn write_minute(minute: Minute, out: &mut [u8]) -> Verdict
+pub fn write_minute(minute: Minute, out: &mut [u8]) -> Result<(), Refusal>
     ensures { (result ≡ write_minute minute out.old) × (out.new ≡ written out.old (minute_bytes minute) result) }
 {
-    let buffer = Verdict::Fine.also(out.len() != Minute::BYTES, Refusal::Buffer);
-    let fields = minute.alone();
-    let verdict = buffer.then(fields);
-    match verdict {
-        Verdict::Refuse(r) => Verdict::Refuse(r),
-        Verdict::Fine => {
-            fill(minute, out);
-            Verdict::Fine
-        }
-    }
+    Ok(())
+        .also(out.len() != Minute::BYTES, Refusal::Buffer)
+        .then(minute.alone())?;
+    fill(minute, out);
+    Ok(())
 }
 
 fn fill(minute: Minute, out: &mut [u8])

@@ -8,19 +8,14 @@ use refusals::{Refusal, Verdict};
 use site::Site;
 
 // Puts the record into the buffer, or answers 22 or the first of the refusals 3 to 9 and leaves the buffer as it was.
-pub fn write_site(site: Site, out: &mut [u8]) -> Verdict
+pub fn write_site(site: Site, out: &mut [u8]) -> Result<(), Refusal>
     ensures { (result ≡ write_site site out.old) × (out.new ≡ written out.old (site_bytes site) result) }
 {
-    let buffer = Verdict::Fine.also(out.len() != Site::BYTES, Refusal::Buffer);
-    let fields = site.verdict();
-    let verdict = buffer.then(fields);
-    match verdict {
-        Verdict::Refuse(r) => Verdict::Refuse(r),
-        Verdict::Fine => {
-            fill(site, out);
-            Verdict::Fine
-        }
-    }
+    Ok(())
+        .also(out.len() != Site::BYTES, Refusal::Buffer)
+        .then(site.verdict())?;
+    fill(site, out);
+    Ok(())
 }
 
 fn fill(site: Site, out: &mut [u8])

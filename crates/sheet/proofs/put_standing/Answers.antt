@@ -3,12 +3,12 @@ use Rattle.text.proofs.Putting.{onward}
 use Rattle.sheet.specs.Sheet.{standing}
 use Rattle.sheet.proofs.put_standing.Goals as goal
 
-pub returns-in-Tonnes : goal.returns-in-Tonnes
+pub returns-in-Ok : goal.returns-in-Ok
 unfolding standing
-returns-in-Tonnes c =
-    record { put_from = rw c.in-Tonnes.is (onward c.put_text-at.ensures c.put_decimal.ensures.put_from); within = omega (arith, c.put_text-at.ensures.place, c.put_decimal.ensures.within) }
+returns-in-Ok c =
+    record { put_from = rw c.in-Ok.is (onward c.put_text-at.ensures c.put_decimal.ensures.put_from); within = omega (arith, c.put_text-at.ensures.place, c.put_decimal.ensures.within) }
 
-pub returns-in-Refused : goal.returns-in-Refused
+pub returns-in-Err : goal.returns-in-Err
 unfolding standing
-returns-in-Refused c =
-    record { put_from = rw c.in-Refused.is (c.put_text.ensures); within = omega (arith, c.put_text.ensures.place) }
+returns-in-Err c =
+    record { put_from = rw c.in-Err.is (c.put_text.ensures); within = omega (arith, c.put_text.ensures.place) }

@@ -1,10 +1,10 @@
+use Rattle.std.specs.Prelude.{Ok, Err}
 use mathlib.Core.Path.{◌≡◌, sym, ap, ◌∙◌}
 use Rattle.refusals.specs.Tables.{first_of}
 use Rattle.refusals.specs.declared.refusal.Refusal.TheVariants.{Oxygen}
 use Rattle.refusals.proofs.Tables.{one_more}
 use Rattle.records.specs.House.{answered}
 use Rattle.minute.specs.Rules.{minute_lines}
-use Rattle.tool06.specs.declared.figures.Judged.TheVariants.{Accepted, Refused}
 use Rattle.tool06.specs.Judged.{oxygen_wrong, judged_lines}
 use Rattle.tool06.specs.scaffold.Nanograms.{figures_ng, judged_ng}
 use Rattle.tool06.proofs.Amounts.{same_judged}
@@ -22,20 +22,20 @@ decided v =
 pub figures_of-requires : goal.figures_of-requires
 figures_of-requires c =
     let a = c.args in
-    let f = facts a.disordered a.site a.minute c.requires (sym (decided (goal.at.figures_of-requires c).After-also-verdict) ∙ c.in-Fine.is) in
+    let f = facts a.disordered a.site a.minute c.requires (sym (decided (goal.at.figures_of-requires c).After-also-verdict) ∙ c.in-Ok.is) in
     (fed_within f, f.oxygen, rule_takes f a.in_time)
 
-pub returns-in-Refuse : goal.returns-in-Refuse
+pub returns-in-Err : goal.returns-in-Err
 unfolding judged_ng
-returns-in-Refuse c m pos =
+returns-in-Err c m pos =
     let a = c.args in
-    ap (answered Accepted Refused (figures_ng a.site a.minute a.in_time)) (sym c.in-Refuse.is ∙ decided (goal.at.returns-in-Refuse c).After-also-verdict)
+    ap (answered (figures_ng a.site a.minute a.in_time)) (sym c.in-Err.is ∙ decided (goal.at.returns-in-Err c).After-also-verdict)
     ∙ same_judged m pos a.disordered a.site a.minute a.in_time c.requires
 
-pub returns-in-Fine : goal.returns-in-Fine
+pub returns-in-Ok : goal.returns-in-Ok
 unfolding judged_ng
-returns-in-Fine c m pos =
+returns-in-Ok c m pos =
     let a = c.args in
-    ap Accepted c.figures_of.ensures
-    ∙ ap (answered Accepted Refused (figures_ng a.site a.minute a.in_time)) (sym c.in-Fine.is ∙ decided (goal.at.returns-in-Fine c).After-also-verdict)
+    ap Ok c.figures_of.ensures
+    ∙ ap (answered (figures_ng a.site a.minute a.in_time)) (sym c.in-Ok.is ∙ decided (goal.at.returns-in-Ok c).After-also-verdict)
     ∙ same_judged m pos a.disordered a.site a.minute a.in_time c.requires

@@ -12,9 +12,9 @@ decided t =
     let a = t.args in
     by_buffer minute_form.size a.out.now (alone_lines a.minute) t.also-buffer.ensures t.alone-fields.ensures t.then-verdict.ensures
 
-pub returns-in-Refuse : goal.returns-in-Refuse
-returns-in-Refuse c = (sym c.in-Refuse.is ∙ decided (goal.at.returns-in-Refuse c).After-then-verdict, refl)
+pub returns-in-Err : goal.returns-in-Err
+returns-in-Err c = (sym c.in-Err.is ∙ decided (goal.at.returns-in-Err c).After-then-verdict, refl)
 
-pub returns-in-Fine : goal.returns-in-Fine
-returns-in-Fine c =
-    (sym c.in-Fine.is ∙ decided (goal.at.returns-in-Fine c).After-then-verdict, c.fill.ensures)
+pub returns-in-Ok : goal.returns-in-Ok
+returns-in-Ok c =
+    (sym c.in-Ok.is ∙ decided (goal.at.returns-in-Ok c).After-then-verdict, c.fill.ensures)
