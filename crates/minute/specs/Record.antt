@@ -1,6 +1,6 @@
 -- R9: the minute record, 54 bytes.
 use Rattle.refusals.specs.declared.refusal.Refusal.{Refusal}
-use Rattle.std.specs.Prelude.{Result, Ok, Err, ℕ, List, [], ◌∷◌, ◌++◌, take, drop}
+use Rattle.std.specs.Prelude.{Result, ℕ, List, [], ◌∷◌, ◌++◌, take, drop}
 use Rattle.exact.specs.Bytes.{signed, unsigned}
 use Rattle.exact.specs.Layout.{Layout, bytes, Maker}
 use Rattle.refusals.specs.Tables.{Line, first_of}
