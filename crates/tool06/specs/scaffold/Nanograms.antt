@@ -1,7 +1,7 @@
 -- The whole nanograms that the code carries, rounded up once.
 -- Nothing here needs to be believed: the code's figures are proved to be those of Figures.antt.
 use Rattle.refusals.specs.declared.refusal.Refusal.{Refusal}
-use Rattle.std.specs.Prelude.{Result, Ok, Err, ℕ, ◌+◌, ◌-◌, ◌*◌, ◌/◌, ◌≤◌, min, Bool}
+use Rattle.std.specs.Prelude.{Result, ℕ, ◌+◌, ◌-◌, ◌*◌, ◌/◌, ◌≤◌, min, Bool}
 use Rattle.exact.specs.Rounding.{ceil_div}
 use Rattle.refusals.specs.Tables.{first_of}
 use Rattle.records.specs.House.{answered}
