@@ -50,7 +50,12 @@ fn figures_of(site: Site, minute: Minute, in_time: bool) -> Figures
 }
 
 // The figures, or the first of the refusals 12 to 19, with 13 where the minute is out of order. The site was examined.
-pub fn judge(site: Site, minute: Minute, disordered: bool, in_time: bool) -> Result<Figures, Refusal>
+pub fn judge(
+    site: Site,
+    minute: Minute,
+    disordered: bool,
+    in_time: bool,
+) -> Result<Figures, Refusal>
     requires { Examined site }
     ensures { (m : Masses) → Positive m → result ≡ judged m disordered site minute in_time }
 {
