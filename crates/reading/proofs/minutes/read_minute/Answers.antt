@@ -1,6 +1,7 @@
-use Rattle.std.specs.Prelude.{Result, Ok, Err}
+use Rattle.std.specs.Prelude.{Result}
 use Rattle.refusals.specs.declared.refusal.Refusal.{Refusal}
 use mathlib.Core.Path.{◌≡◌, sym, ◌∙◌}
+use Rattle.std.proofs.lemmas.Result.{err_from_is_err_and}
 use Rattle.records.specs.House.{answered}
 use Rattle.records.proofs.Reading.{by_head, by_fields}
 use Rattle.minute.specs.Rules.{alone_lines}
@@ -13,19 +14,22 @@ came : (v : After-alone) {w : Result Unit Refusal} → v.alone.result ≡ w → 
 unfolding read_minute
 came v {w} e =
     let b = v.args.bytes.now in
-    by_fields Ok Err alone_lines (minute_of b) (minute_head_lines b) v.minute_in-minute.result w
-    (sym v.head.ensures ∙ v.in-Ok.is)
+    by_fields alone_lines (minute_of b) (minute_head_lines b) v.minute_in-minute.result w
+    (sym v.head.ensures ∙ v.in_ok-head.was)
     v.minute_in-minute.ensures
     (sym e ∙ v.alone.ensures)
 
-pub returns-in-Err : goal.returns-in-Err
+pub returns-in_err-head : goal.returns-in_err-head
 unfolding read_minute
-returns-in-Err c =
+returns-in_err-head c =
     let b = c.args.bytes.now in
-    by_head Ok Err alone_lines (minute_of b) (minute_head_lines b) (sym c.head.ensures ∙ c.in-Err.is)
+    let p = err_from_is_err_and c.from_residual.result c.from_residual.ensures.1 in
+    rw (p.1, p.2) (by_head alone_lines (minute_of b) (minute_head_lines b) (sym c.head.ensures ∙ c.in_err-head.was))
 
-pub returns-in-Ok-alone : goal.returns-in-Ok-alone
-returns-in-Ok-alone c = came (goal.at.returns-in-Ok-alone c).After-alone c.in-Ok-alone.is
+pub returns-in_err-alone : goal.returns-in_err-alone
+returns-in_err-alone c =
+    let p = err_from_is_err_and c.from_residual-in_err-alone.result c.from_residual-in_err-alone.ensures.1 in
+    rw (p.1, p.2) (came (goal.at.returns-in_err-alone c).After-alone c.in_err-alone.was)
 
-pub returns-in-Err-alone : goal.returns-in-Err-alone
-returns-in-Err-alone c = came (goal.at.returns-in-Err-alone c).After-alone c.in-Err-alone.is
+pub returns : goal.returns
+returns c = came (goal.at.returns c).After-alone c.in_ok-alone.was

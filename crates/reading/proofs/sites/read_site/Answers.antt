@@ -1,6 +1,7 @@
-use Rattle.std.specs.Prelude.{Result, Ok, Err}
+use Rattle.std.specs.Prelude.{Result}
 use Rattle.refusals.specs.declared.refusal.Refusal.{Refusal}
 use mathlib.Core.Path.{◌≡◌, sym, ◌∙◌}
+use Rattle.std.proofs.lemmas.Result.{err_from_is_err_and}
 use Rattle.records.specs.House.{answered}
 use Rattle.records.proofs.Reading.{by_head, by_fields}
 use Rattle.site.specs.Rules.{site_lines}
@@ -13,19 +14,22 @@ came : (v : After-verdict) {w : Result Unit Refusal} → v.verdict.result ≡ w 
 unfolding read_site
 came v {w} e =
     let b = v.args.bytes.now in
-    by_fields Ok Err site_lines (site_of b) (site_head_lines b) v.site_in-site.result w
-    (sym v.head.ensures ∙ v.in-Ok.is)
+    by_fields site_lines (site_of b) (site_head_lines b) v.site_in-site.result w
+    (sym v.head.ensures ∙ v.in_ok-head.was)
     v.site_in-site.ensures
     (sym e ∙ v.verdict.ensures)
 
-pub returns-in-Err : goal.returns-in-Err
+pub returns-in_err-head : goal.returns-in_err-head
 unfolding read_site
-returns-in-Err c =
+returns-in_err-head c =
     let b = c.args.bytes.now in
-    by_head Ok Err site_lines (site_of b) (site_head_lines b) (sym c.head.ensures ∙ c.in-Err.is)
+    let p = err_from_is_err_and c.from_residual.result c.from_residual.ensures.1 in
+    rw (p.1, p.2) (by_head site_lines (site_of b) (site_head_lines b) (sym c.head.ensures ∙ c.in_err-head.was))
 
-pub returns-in-Ok-verdict : goal.returns-in-Ok-verdict
-returns-in-Ok-verdict c = came (goal.at.returns-in-Ok-verdict c).After-verdict c.in-Ok-verdict.is
+pub returns-in_err-verdict : goal.returns-in_err-verdict
+returns-in_err-verdict c =
+    let p = err_from_is_err_and c.from_residual-in_err-verdict.result c.from_residual-in_err-verdict.ensures.1 in
+    rw (p.1, p.2) (came (goal.at.returns-in_err-verdict c).After-verdict c.in_err-verdict.was)
 
-pub returns-in-Err-verdict : goal.returns-in-Err-verdict
-returns-in-Err-verdict c = came (goal.at.returns-in-Err-verdict c).After-verdict c.in-Err-verdict.is
+pub returns : goal.returns
+returns c = came (goal.at.returns c).After-verdict c.in_ok-verdict.was
