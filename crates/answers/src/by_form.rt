@@ -65,7 +65,7 @@ pub fn answer(out: &mut [u8], at: usize, form: &[u8], values: &[u64]) -> usize {
     while from < form.len() {
         let end = end_of(form, from, MARK);
         at = text(out, at, &form[from..end]);
-        let kind = numbers::byte_at(form, end + 1);
+        let kind: u8 = numbers::at(form, end + 1);
         at = put_value(out, at, kind, value_at(values, place));
         place = place + 1;
         from = end + 2;

@@ -56,7 +56,7 @@ fn fill_up(account: Account, count: u32, bytes: &mut [u8], size: usize) -> Fille
     let mut current = account;
     let mut taken: u32 = 0;
     while taken < count {
-        numbers::put_u32(bytes, 3, current.minutes());
+        numbers::put(bytes, 3, current.minutes());
         let added = add_to(current, part(bytes, 0, size));
         let answer = added.answer;
         if let Err(refusal) = answer {

@@ -1,8 +1,7 @@
 // A single minute, for host programs in C or Rust: numbers and byte slices only.
 #![tactic(auto)]
 
-ghost use Rattle.std.specs.Prelude.{◌≡◌, ◌+◌, ◌≤◌, length};
-ghost use Rattle.exact.specs.Bytes.{bytes_of, put};
+ghost use Rattle.std.specs.Prelude.{◌≡◌, length};
 ghost use Rattle.tool06.specs.Tool.{Masses, Positive};
 ghost use Rattle.host.specs.Single.{since_in_time, answer_bytes, single, returned, answer_after};
 
@@ -17,22 +16,14 @@ fn in_time(site: Site, days: u16) -> bool
     (days != Site::NEVER) & (days <= site.days)
 }
 
-fn put_u64(b: &mut [u8], k: u8, x: u64)
-    requires { k + 8 ≤ 256 }
-    ensures { b.new ≡ put b.old k (bytes_of 8 x) }
-{
-    numbers::put_u32(b, k, (x / 4_294_967_296) as u32);
-    numbers::put_u32(b, k + 4, (x % 4_294_967_296) as u32);
-}
-
 fn fill(answer: &mut [u8], figures: Figures)
     requires { length answer.old ≡ 25 }
     ensures { answer.new ≡ answer_bytes figures }
 {
-    put_u64(answer, 0, figures.fed);
-    put_u64(answer, 8, figures.emitted);
-    put_u64(answer, 16, figures.destroyed);
-    numbers::put_byte(answer, 24, figures.rule);
+    numbers::put(answer, 0, figures.fed);
+    numbers::put(answer, 8, figures.emitted);
+    numbers::put(answer, 16, figures.destroyed);
+    numbers::put(answer, 24, figures.rule);
 }
 
 // The figures, or the first of the refusals 1 to 9 and the minute's 1, 2 and 12 to 19.

@@ -5,19 +5,19 @@ use refusals::Refusal;
 use site::Site;
 
 // Where the fields stand that are told. Minute's own reading is left to the program's loop, which is faster as its only caller.
-const NUMBER: u8 = 3;
+const NUMBER: usize = 3;
 
 const FLAGS: usize = 7;
 
-const TEMPERATURE: u16 = 8;
+const TEMPERATURE: usize = 8;
 
-const LITRES: u8 = 10;
+const LITRES: usize = 10;
 
-const CH4: u8 = 14;
+const CH4: usize = 14;
 
-const OXYGEN: u8 = 46;
+const OXYGEN: usize = 46;
 
-const METHANE: u8 = 50;
+const METHANE: usize = 50;
 
 fn other_version(rt: &impl Eprint, expected: u32, year: u16) {
     moment::minute(rt, "flare: where minute ", expected, year);
@@ -74,14 +74,14 @@ fn sum_of_fractions(record: &[u8]) -> u64 {
     let mut sum: u64 = 0;
     let mut at = CH4;
     while at < OXYGEN {
-        sum = sum + numbers::u32_at(record, at) as u64;
+        sum = sum + numbers::at::<u32>(record, at) as u64;
         at = at + 4;
     }
     sum
 }
 
-fn field(rt: &impl Eprint, before: &str, record: &[u8], at: u8, after: &str) {
-    say::between(rt, before, numbers::u32_at(record, at) as u64, after);
+fn field(rt: &impl Eprint, before: &str, record: &[u8], at: usize, after: &str) {
+    say::between(rt, before, numbers::at::<u32>(record, at) as u64, after);
 }
 
 fn wrong_gas(rt: &impl Eprint, refusal: Refusal, record: &[u8]) {
@@ -114,7 +114,7 @@ fn wrong_gas(rt: &impl Eprint, refusal: Refusal, record: &[u8]) {
 }
 
 fn wrong_temperature(rt: &impl Eprint, record: &[u8]) {
-    let temperature = numbers::signed(numbers::u16_at(record, TEMPERATURE));
+    let temperature = numbers::at(record, TEMPERATURE);
     say::degrees(rt, "17 TEMPERATURE: ", temperature);
     say::text(
         rt,
@@ -138,7 +138,7 @@ fn wrong_reading(rt: &impl Eprint, refusal: Refusal, record: &[u8]) {
         Refusal::Flags => say::between(
             rt,
             "12 FLAGS: ",
-            numbers::byte_at(record, FLAGS) as u64,
+            numbers::at::<u8>(record, FLAGS) as u64,
             "; they must be the sum of 1 flame seen, 2 temperature present, 4 exhaust readings present",
         ),
         Refusal::Temperature => wrong_temperature(rt, record),
@@ -191,7 +191,7 @@ pub fn refused_minute(
     expected: u32,
     site: Site,
 ) {
-    let came = numbers::u32_at(record, NUMBER);
+    let came = numbers::at(record, NUMBER);
     match refusal {
         Refusal::Length => no_minute(rt, record.len(), expected, site.year),
         Refusal::Version => other_version(rt, expected, site.year),

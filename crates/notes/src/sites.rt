@@ -90,7 +90,7 @@ fn line_of(bytes: usize, text: bool) -> u8 {
 }
 
 fn no_site(rt: &impl Eprint, bytes: &[u8]) {
-    let text = begins_text(numbers::byte_at(bytes, 0));
+    let text = begins_text(numbers::at(bytes, 0));
     say::text(rt, "flare: the site is refused, 1 LENGTH: the input ");
     say::line(rt, NO_SITE, line_of(bytes.len(), text));
     say::text(

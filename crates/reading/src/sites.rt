@@ -20,21 +20,21 @@ pub fn site_in(b: &[u8]) -> Site
     ensures { result ≡ site_of b.now }
 {
     let temperature = Temperatures {
-        lowest: numbers::signed(numbers::u16_at(b, 16)),
-        highest: numbers::signed(numbers::u16_at(b, 18)),
+        lowest: numbers::at(b, 16),
+        highest: numbers::at(b, 18),
     };
     let flow = Flows {
-        lowest: numbers::u32_at(b, 20),
-        highest: numbers::u32_at(b, 24),
+        lowest: numbers::at(b, 20),
+        highest: numbers::at(b, 24),
     };
     Site {
-        method: numbers::byte_at(b, 3),
-        year: numbers::u16_at(b, 4),
-        gwp: numbers::u16_at(b, 6),
-        height: numbers::u32_at(b, 8),
-        diameter: numbers::u32_at(b, 12),
+        method: numbers::at(b, 3),
+        year: numbers::at(b, 4),
+        gwp: numbers::at(b, 6),
+        height: numbers::at(b, 8),
+        diameter: numbers::at(b, 12),
         temperature: temperature,
         flow: flow,
-        days: numbers::u16_at(b, 28),
+        days: numbers::at(b, 28),
     }
 }

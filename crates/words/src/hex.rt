@@ -51,7 +51,7 @@ fn fill(word: &[u8], out: &mut [u8])
     while i < word.len() {
         let high = digit_of(word[i]);
         let low = digit_of(word[i + 1]);
-        numbers::put_byte(out, k, high * 16 + low);
+        numbers::put(out, k, high * 16 + low);
         i = i + 2;
         k = k + 1;
     }

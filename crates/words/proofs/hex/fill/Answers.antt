@@ -25,7 +25,7 @@ loop-i-preserved c =
     let y = p.before.before in
     let x = y.before.before in
     let t = x.before.before in
-    one_less t.loop-i.invariant t.loop-i-test.true x.digit_of-high.ensures y.digit_of-low.ensures p.put_byte.ensures
+    one_less t.loop-i.invariant t.loop-i-test.true x.digit_of-high.ensures y.digit_of-low.ensures p.put.ensures
 
 pub returns : goal.returns
 returns c = none_left c.loop-i.invariant c.loop-i-test.false
