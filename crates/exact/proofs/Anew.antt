@@ -1,33 +1,24 @@
--- A list made anew, place by place.
-use Prim.Native.Nat.{ℕ, zero, suc, ◌+◌, ◌<◌}
-use mathlib.Core.Path.{◌≡◌, refl, sym, ap, ◌∙◌}
-use mathlib.Core.List.{List, [], ◌∷◌}
+-- A list made anew, place by place, by calls that leave the closure as it was.
+use Rattle.std.proofs.Common.{ℕ, zero, suc, ◌+◌, ◌<◌, ◌≡◌, sym, ◌∙◌, List, length, get_or, arith}
+use Rattle.std.specs.Array.{IsFromFnResult, IsFromFnResultFrom}
 use native.Mathlib.Nat.{add-zero, zero-add}
-use native.Mathlib.Omega.{arith}
-use lib.ListN.{length, get_or}
+use denote.Param.Members.{Mut, Called}
 use lib.Seq.{ext_get_or}
 
-module _ {A : Type 0} (f : ℕ → A) where
-  -- n values of a function, from place k on
-  abbrev pub from : ℕ → ℕ → List A
-  from zero k = []
-  from (suc n) k = f k ∷ from n (k + 1)
+module _ {F A : Type 0} (calls : Mut F (ℕ × Unit {0}) A) (f : F) (h : ℕ → A) where
+  at_place : (d : A) (made : List A) (n from place : ℕ) → IsFromFnResultFrom calls f made from n → ((i : ℕ) (y : A) (q : F) → i < from + n → Called calls f (i, tt) y q → (q ≡ f) × (y ≡ h i)) → place < n → get_or made (from + place) d ≡ h (from + place)
+  at_place d made zero from place is each within = absurd (omega arith)
+  at_place d made (suc n) from zero (q, y, here, call, rest) each within =
+      rw add-zero (here.1 d ∙ (each from y q (omega arith) call).1)
+  at_place d made (suc n) from (suc place) (q, y, here, call, rest) each within =
+      let next : from + suc place ≡ from + 1 + place = omega arith in
+      let as_before = (each from y q (omega arith) call).0 in
+      rw next (at_place d made n (from + 1) place (rw as_before at rest) (λ i z r less. each i z r (omega arith)) (omega arith))
 
-  length_from : (n k : ℕ) → length (from n k) ≡ n
-  length_from zero k = refl
-  length_from (suc n) k = ap suc (length_from n (k + 1))
-
-  get_or-from : (d : A) (n k i : ℕ) → i < n → get_or (from n k) i d ≡ f (k + i)
-  get_or-from d zero k i h = absurd (omega arith)
-  get_or-from d (suc n) k zero h = ap f (sym (add-zero k))
-  get_or-from d (suc n) k (suc i) h =
-      let e : k + 1 + i ≡ k + suc i = omega arith in
-      get_or-from d n (k + 1) i (omega arith) ∙ ap f e
-
-  -- n values that are those of a list of n are the list
-  pub anew : (d : A) (n : ℕ) (xs : List A) → length xs ≡ n → ((i : ℕ) → i < n → f i ≡ get_or xs i d) → from n 0 ≡ xs
-  anew d n xs long same =
-      ext_get_or d (from n 0) xs (length_from n 0 ∙ sym long)
-      (λ i h.
-      let within : i < n = omega (arith, length_from n 0) in
-      get_or-from d n 0 i within ∙ ap f (zero-add i) ∙ same i within)
+  -- made so, with the values of a list of that length, it is that list
+  pub anew : (d : A) (n : ℕ) (made xs : List A) → IsFromFnResult calls f made n → ((i : ℕ) (y : A) (q : F) → i < n → Called calls f (i, tt) y q → (q ≡ f) × (y ≡ h i)) → length xs ≡ n → ((i : ℕ) → i < n → h i ≡ get_or xs i d) → made ≡ xs
+  anew d n made xs is each long same =
+      ext_get_or d made xs (is.long ∙ sym long)
+      (λ i within.
+      let below : i < n = omega (arith, is.long) in
+      (rw zero-add at (at_place d made n 0 i is.each (λ j y q less. each j y q (omega arith)) below)) ∙ same i below)

@@ -5,36 +5,25 @@ ghost use Rattle.std.specs.Prelude.{◌≡◌, ℕ, ◌+◌, ◌≤◌, ◌<◌,
 ghost use Rattle.sums.specs.Sums.{no_sums, ◌⊞◌};
 ghost use Rattle.sums.specs.scaffold.Fits.{Fits};
 ghost use Rattle.rows.specs.Rows.{month_count, no_rows, row_of, with_in};
-ghost use Rattle.rows.specs.scaffold.Only.{if_here, only};
+ghost use Rattle.rows.specs.scaffold.Only.{only};
 
+use std::array;
 use sums::Sums;
 
 // A row for each month.
 pub const MONTHS: usize = 12;
 
-// A number where a test holds, else 0. Number by number the compiler keeps sums in registers; as a whole it would copy them.
-fn if_here32(here: bool, x: u32) -> u32
-    ensures { result ≡ if_here here x }
-{
-    if here { x } else { 0 }
-}
-
-fn if_here64(here: bool, x: u64) -> u64
-    ensures { result ≡ if_here here x }
-{
-    if here { x } else { 0 }
-}
-
-// All of these sums, or none.
+// All of these sums, or none. Number by number the compiler keeps sums in registers; as a whole it would copy them.
+#[tactic(auto, unfolding(sums::specs::Sums::no_sums))]
 fn only(here: bool, sums: Sums) -> Sums
     ensures { result ≡ only here sums }
 {
     Sums {
-        minutes: if_here32(here, sums.minutes),
-        gas: if_here32(here, sums.gas),
-        fed: if_here64(here, sums.fed),
-        emitted: if_here64(here, sums.emitted),
-        destroyed: if_here64(here, sums.destroyed),
+        minutes: if here { sums.minutes } else { 0 },
+        gas: if here { sums.gas } else { 0 },
+        fed: if here { sums.fed } else { 0 },
+        emitted: if here { sums.emitted } else { 0 },
+        destroyed: if here { sums.destroyed } else { 0 },
     }
 }
 
@@ -61,18 +50,5 @@ pub fn with_in(rows: [Sums; MONTHS], month: u8, one: Sums) -> [Sums; MONTHS]
     requires by_index { (k : ℕ) → Fits (row_of rows k ⊞ only (eqb month k) one) }
     ensures { result ≡ with_in rows month one }
 {
-    [
-        row_with(rows, 0, month, one),
-        row_with(rows, 1, month, one),
-        row_with(rows, 2, month, one),
-        row_with(rows, 3, month, one),
-        row_with(rows, 4, month, one),
-        row_with(rows, 5, month, one),
-        row_with(rows, 6, month, one),
-        row_with(rows, 7, month, one),
-        row_with(rows, 8, month, one),
-        row_with(rows, 9, month, one),
-        row_with(rows, 10, month, one),
-        row_with(rows, 11, month, one),
-    ]
+    array::from_fn(|place| row_with(rows, place, month, one))
 }

@@ -1,22 +1,12 @@
-use Rattle.rows.proofs.Laws.{rows_anew}
+use Rattle.std.proofs.Common.{rules, arith, ◌∙◌}
+use Rattle.exact.proofs.Anew.{anew}
+use Rattle.sums.specs.Sums.{no_sums}
+use Rattle.rows.specs.Rows.{with_in}
+use Rattle.rows.proofs.Laws.{length_with_in, row_anew, row_at}
 use Rattle.rows.proofs.with_in.Goals as goal
 
 pub returns : goal.returns
 returns c =
-    let e = c.before.before.before.before.before.before.before.before.before.before.before.before in
-    let a = e.args in
-    rw (
-      c.row_with-12.ensures,
-      c.row_with-11.ensures,
-      c.row_with-10.ensures,
-      c.row_with-9.ensures,
-      c.row_with-8.ensures,
-      c.row_with-7.ensures,
-      c.row_with-6.ensures,
-      c.row_with-5.ensures,
-      c.row_with-4.ensures,
-      c.row_with-3.ensures,
-      c.row_with-2.ensures,
-      c.row_with.ensures,
-    )
-    (rows_anew a.rows a.month a.one 12 e.requires.rows_len.0 e.requires.rows_len.1)
+    let a = c.args in
+    let long = c.requires.rows_len.0 in
+    anew _ _ (row_anew a.rows a.month a.one) no_sums 12 _ (with_in a.rows a.month a.one) c.from_fn.ensures.items (λ place row q less call. search rules) (length_with_in a.rows a.month a.one ∙ long) (λ place less. row_at a.rows a.month a.one place c.requires.rows_len.1 (omega arith))
