@@ -1,15 +1,13 @@
--- Counts made anew are the counts with one more at the rule's place.
+-- Each count is the one made anew, with one more where it is the rule's.
 use Prim.Native.Nat.{ℕ, ◌+◌, ◌<◌}
-use mathlib.Core.Path.{◌≡◌, refl, sym, ◌∙◌}
+use mathlib.Core.Path.{◌≡◌, refl, sym}
 use mathlib.Core.Bool.{Bool, true, false}
 use mathlib.Core.List.{List}
 use native.Mathlib.Nat.{add-zero}
-use native.Mathlib.Omega.{arith}
 use borrow.Author.Tests.{eqb-true, eqb-false}
 use lib.Dec.{eqb}
-use lib.ListN.{length, get_or, length-set}
+use lib.ListN.{length, get_or}
 use lib.Seq.{get_or-set_same, get_or-set_other}
-use Rattle.exact.proofs.Anew.{from, anew}
 use Rattle.sums.specs.Sums.{one_if}
 use Rattle.counts.specs.Counts.{one_more}
 
@@ -18,7 +16,7 @@ module _ (cs : List ℕ) (rule : ℕ) where
   abbrev pub count_anew : ℕ → ℕ
   count_anew place = get_or cs place 0 + one_if (eqb rule place)
 
-  at_place : (i : ℕ) → i < length cs → count_anew i ≡ get_or (one_more cs rule) i 0
+  pub at_place : (i : ℕ) → i < length cs → count_anew i ≡ get_or (one_more cs rule) i 0
   at_place i h = by_test (eqb rule i) refl
     where
       by_test : (here : Bool) → eqb rule i ≡ here → get_or cs i 0 + one_if (eqb rule i) ≡ get_or (one_more cs rule) i 0
@@ -27,6 +25,3 @@ module _ (cs : List ℕ) (rule : ℕ) where
           rw (e, same) (sym (get_or-set_same cs i (get_or cs i 0 + 1) 0 h))
       by_test false e =
           rw (e, get_or-set_other cs rule i (get_or cs rule 0 + 1) 0 (λ same. eqb-false rule i e (sym same)), add-zero (get_or cs i 0))
-
-  pub counts_anew : (n : ℕ) → length cs ≡ n → from count_anew n 0 ≡ one_more cs rule
-  counts_anew n long = anew count_anew 0 n (one_more cs rule) (length-set cs rule (get_or cs rule 0 + 1) ∙ long) (λ i h. at_place i (omega arith))

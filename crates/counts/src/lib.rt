@@ -7,6 +7,7 @@ ghost use Rattle.sums.specs.scaffold.Fits.{minutes_most};
 ghost use Rattle.tool06.specs.Rules.{rule_count};
 ghost use Rattle.counts.specs.Counts.{sum, one_more};
 
+use std::array;
 use tool06::Figures;
 
 // The count at a place, with one more where it is the rule's.
@@ -26,16 +27,5 @@ pub fn one_more(counts: [u32; Figures::RULES], rule: u8) -> [u32; Figures::RULES
     requires { (length counts ≡ rule_count) × (sum counts ≤ minutes_most) }
     ensures { result ≡ one_more counts rule }
 {
-    [
-        counted(counts, 0, rule),
-        counted(counts, 1, rule),
-        counted(counts, 2, rule),
-        counted(counts, 3, rule),
-        counted(counts, 4, rule),
-        counted(counts, 5, rule),
-        counted(counts, 6, rule),
-        counted(counts, 7, rule),
-        counted(counts, 8, rule),
-        counted(counts, 9, rule),
-    ]
+    array::from_fn(|place| counted(counts, place, rule))
 }
