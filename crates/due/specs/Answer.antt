@@ -1,7 +1,7 @@
 -- R55, R56: "Adding a minute: 11, 1, 2, 12 to 19": what a record is answered.
 use Rattle.tool06.specs.declared.figures.Figures.{Figures}
 use Rattle.refusals.specs.declared.refusal.Refusal.{Refusal}
-use Rattle.std.specs.Prelude.{Result, Ok, Err, ℕ, ◌/◌, Bool, not, List, ◌∷◌, ◌++◌, leb, eqb}
+use Rattle.std.specs.Prelude.{Result, ℕ, ◌/◌, Bool, not, List, ◌∷◌, ◌++◌, leb, eqb}
 use Rattle.refusals.specs.Tables.{Line, when, first_of}
 use Rattle.refusals.specs.declared.refusal.Refusal.TheVariants.{Full}
 use Rattle.records.specs.House.{answered}
