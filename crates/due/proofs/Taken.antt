@@ -1,16 +1,14 @@
 -- What holds where a record is accepted.
-use Rattle.std.specs.Prelude.{Result, Ok, Err}
+use Rattle.std.specs.Prelude.{Ok}
 use Prim.Native.Nat.{ℕ, ◌<◌}
-use mathlib.Core.Path.{◌≡◌, refl, sym, subst, ◌∙◌}
+use mathlib.Core.Path.{◌≡◌, sym, subst, ◌∙◌}
 use mathlib.Core.Bool.{Bool, false}
 use mathlib.Core.List.{List}
-use native.Mathlib.Omega.{arith}
 use borrow.Author.Tests.{eqb-true, leb-false, not-false}
 use lib.Dec.{eqb}
 use Rattle.refusals.specs.Tables.{first_of}
-use Rattle.refusals.specs.declared.refusal.Refusal.{Refusal}
 use Rattle.refusals.proofs.Tables.{split, none}
-use Rattle.records.specs.House.{answered}
+use Rattle.records.proofs.Reading.{answered_fine}
 use Rattle.site.specs.Rules.{year_minutes, Examined}
 use Rattle.minute.specs.Record.{minute_of}
 use Rattle.tool06.specs.Bounds.{IsAccepted, figures_of}
@@ -29,13 +27,6 @@ pub record Taken (m : Masses) (d : Due) (bytes : List ℕ) (f : Figures) : Type 
   pub entry-accepted : IsAccepted (entry d bytes)
   pub figures_are : f ≡ figures_of m (entry d bytes)
 
-refused_not : {r : Refusal} {f : Figures} → Err r ≡ Ok f → ⊥
-refused_not e = let z : ◌≡◌ {A = ℕ} 0 1 = cc in omega arith
-
-answered_fine : (v : Result Unit Refusal) {f g : Figures} → answered g v ≡ Ok f → (v ≡ Ok tt) × (f ≡ g)
-answered_fine (Ok tt) e = (refl, cc)
-answered_fine (Err r) e = absurd (refused_not e)
-
 pub taken : (m : Masses) (d : Due) → Examined d.site → (bytes : List ℕ) (f : Figures) → answer m d bytes ≡ Ok f → Taken m d bytes f
 unfolding answer add_lines
 taken m d examined bytes f e =
@@ -47,7 +38,7 @@ taken m d examined bytes f e =
       not_full = (none (record_lines d bytes) both.0).0;
       number_is = eqb-true n.number d.minute (not-false (eqb n.number d.minute) next);
       entry-accepted = (examined, subst (λ (b : Bool). first_of (judged_lines b d.site n) ≡ Ok tt) next both.1);
-      figures_are = fine.1;
+      figures_are = sym fine.1;
     }
 
 pub room : {m : Masses} {d : Due} {bytes : List ℕ} {f : Figures} → Taken m d bytes f → d.minute < year_minutes d.site.year
@@ -60,4 +51,4 @@ unfolding answer
 same_figures m d e bytes f g site in-time accepted-d accepted-e =
     let x = answered_fine (first_of (add_lines d bytes)) accepted-d in
     let y = answered_fine (first_of (add_lines e bytes)) accepted-e in
-    x.1 ∙ (λ i. figures m (site i) (minute_of bytes) (in-time i)) ∙ sym y.1
+    sym x.1 ∙ (λ i. figures m (site i) (minute_of bytes) (in-time i)) ∙ y.1

@@ -1,5 +1,5 @@
 -- Both round trips of a record in the house form, once for every kind.
-use Rattle.std.specs.Prelude.{Result, Ok, Err}
+use Rattle.std.specs.Prelude.{Result, Ok}
 use Prim.Native.Nat.{ℕ, ◌+◌, ◌-◌, ◌≤◌}
 use mathlib.Core.Path.{◌≡◌, refl, sym, ap, ap₂, ◌∙◌}
 use mathlib.Core.Bool.{true, not}
@@ -18,7 +18,7 @@ use Rattle.records.specs.House.{Form, bytes_by, fields_by, head_lines, buffer_li
 use Rattle.records.specs.RoundTrip.{Kind, ReadsBack, WritesBack}
 use Rattle.refusals.specs.declared.refusal.Refusal.{Refusal}
 use Rattle.refusals.proofs.Tables.{joined, split, none}
-use Rattle.records.proofs.Reading.{by_fields}
+use Rattle.records.proofs.Reading.{by_fields, answered_fine}
 
 -- what a head that is fine says
 record Headed (n version : ℕ) (b : List ℕ) : Type 0 where
@@ -88,9 +88,6 @@ module _ {S : Type 0} (form : Form S) (lines : S → List Line) where
     -- the fields of bytes have the numbers that stand there
     pub held : (b : List ℕ) → AreBytes b → Holds form.layout (fields_by form b) b
 
-  refused_not : {s : S} {r : Refusal} → ◌≡◌ {A = Result S Refusal} (Err r) (Ok s) → ⊥
-  refused_not e = let z : ◌≡◌ {A = ℕ} 0 1 = cc in omega arith
-
   pub reads_back : Sound → ReadsBack kind
   reads_back k s out w =
       let good = (split (buffer_lines form.size out) (lines s) w).1 in
@@ -99,14 +96,10 @@ module _ {S : Type 0} (form : Form S) (lines : S → List Line) where
       ap (λ (v : Result Unit Refusal). kind.read (written out b v)) w
       ∙ sym (by_fields lines (fields_by form b) (head b) s (Ok tt) (head_of_bytes form k.gap s) (sym back) (sym good))
 
-  taken : (s t : S) (v : Result Unit Refusal) → answered s v ≡ Ok t → (v ≡ Ok tt) × (s ≡ t)
-  taken s t (Ok tt) e = (refl, cc)
-  taken s t (Err r) e = absurd (refused_not e)
-
   pub writes_back : Sound → WritesBack kind
   writes_back k b s out h e l =
       let x = fields_by form b in
-      let a = taken x s (first_of (head b ++ lines x)) e in
+      let a = answered_fine (first_of (head b ++ lines x)) e in
       let p = split (head b) (lines x) a.0 in
       let good : first_of (lines s) ≡ Ok tt = ap (λ (y : S). first_of (lines y)) (sym a.1) ∙ p.1 in
       let w : kind.write s out ≡ Ok tt = joined (buffer_lines form.size out) (lines s) ∙ ap₂ followed_by (buffer_fine form.size out l) good in
