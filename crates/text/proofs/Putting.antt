@@ -9,7 +9,8 @@ use lib.ListN.{length, set, take, drop, length-append, length-drop, take-append-
 use lib.Seq.{length-take-le}
 use Rattle.exact.specs.Bytes.{put}
 use Rattle.exact.proofs.Spelling.{put-behind}
-use Rattle.text.specs.Places.{PutFrom}
+use Rattle.text.specs.Places.{PutFrom, Puts}
+use Rattle.text.specs.declared.Page.{Page}
 
 put-put : (b : List ℕ) (k : ℕ) (xs ys : List ℕ) → put (put b k xs) (k + length xs) ys ≡ put b k (xs ++ ys)
 unfolding put
@@ -35,3 +36,16 @@ put_part b xs at k h e =
     let split : take at b ++ (take k rest ++ drop k rest) ≡ b = ap (λ (l : List ℕ). take at b ++ l) (take-append-drop k rest) ∙ take-append-drop at b in
     let front : length (take at b) ≡ at = length-take-le at b (omega arith) in
     sym (put-behind xs (take at b) (take k rest) (drop k rest) same) ∙ (λ i. put (split i) (front i) xs)
+
+-- a piece on a page, and one more behind it
+pub onwards : {a b c : Page} {xs ys : List ℕ} → Puts a xs b → Puts b ys c → Puts a (xs ++ ys) c
+onwards {a = a} {xs = xs} {ys = ys} p q =
+    record {
+      holds = q.holds ∙ rw (p.holds, p.place) (put-put a.buffer.now a.at xs ys);
+      place = rw (length-append xs ys) (omega (arith, p.place, q.place));
+      long = q.long ∙ p.long;
+    }
+
+-- what is put on a page stands in its buffer
+pub from_page : {a b : Page} {xs : List ℕ} → Puts a xs b → PutFrom a.buffer.now a.at xs b.buffer.now b.at
+from_page p = record { holds = p.holds; place = p.place }

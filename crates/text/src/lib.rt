@@ -2,7 +2,7 @@
 #![tactic(auto)]
 
 ghost use Rattle.std.specs.Prelude.{◌≡◌, ◌+◌, ◌≤◌, length};
-ghost use Rattle.text.specs.Places.{PutFrom};
+ghost use Rattle.text.specs.Places.{Puts};
 ghost use Rattle.text.specs.Text.{decimal, last};
 
 // A buffer that is written from a place on, and the place after what was put last.
@@ -16,7 +16,7 @@ impl Page<'_> {
     #[tactic(auto, using(crate::proofs::Putting::put_part))]
     pub fn text(&mut self, words: &[u8])
         requires { self.old.at + length words.now ≤ length self.old.buffer.now }
-        ensures { PutFrom self.old.buffer.now self.old.at words.now self.new.buffer.now self.new.at }
+        ensures { Puts self.old words.now self.new }
     {
         let end = self.at + words.len();
         self.buffer[self.at..end].copy_from_slice(words);
@@ -26,7 +26,7 @@ impl Page<'_> {
     #[tactic(auto, using(crate::proofs::Putting::put_part, crate::proofs::Decimals::whole))]
     pub fn decimal(&mut self, n: u64)
         requires { self.old.at + 20 ≤ length self.old.buffer.now }
-        ensures put_from { PutFrom self.old.buffer.now self.old.at (decimal n) self.new.buffer.now self.new.at }
+        ensures put_from { Puts self.old (decimal n) self.new }
         ensures within { self.new.at ≤ self.old.at + 20 }
     {
         let end = self.at + places(n);
