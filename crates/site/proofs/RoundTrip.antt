@@ -1,5 +1,6 @@
 -- A site written and read, and read and written.
 use Rattle.std.specs.Prelude.{Ok}
+use Rattle.std.specs.Prelude.{ℤ}
 use Prim.Native.Nat.{ℕ}
 use mathlib.Core.Path.{◌≡◌, refl}
 use mathlib.Core.Bool.{false, ◌||◌}
@@ -23,10 +24,10 @@ use Rattle.site.specs.Rules.{site_lines, temperatures_wrong, flows_wrong}
 use Rattle.site.specs.Record.{site_layout, site, site_form, site_of, site_bytes, read_site, write_site}
 use Rattle.site.specs.Promises.{site_kind}
 use Rattle.site.specs.declared.Site.{Site}
-use Rattle.site.specs.declared.Temperatures.{Temperatures}
+use Rattle.site.specs.declared.limits.Limits.{Limits}
 
 -- temperatures that are not refused fit their bytes
-fit : (t : Temperatures) → temperatures_wrong t ≡ false → SFits w16 t.lowest × SFits w16 t.highest
+fit : (t : Limits ℤ) → temperatures_wrong t ≡ false → SFits w16 t.lowest × SFits w16 t.highest
 fit t e =
     let low = temperature_outside t.lowest in
     let high = temperature_outside t.highest in

@@ -1,25 +1,20 @@
 // The site record.
 #![tactic(auto)]
 
+mod limits;
+
 ghost use Rattle.std.specs.Prelude.{◌≡◌};
 ghost use Rattle.refusals.specs.Tables.{first_of};
-ghost use Rattle.site.specs.Rules.{temperatures_wrong, flows_wrong, is_open, year_minutes, site_lines};
+ghost use Rattle.site.specs.Rules.{is_open, year_minutes, site_lines};
 
+pub use limits::Limits;
 use refusals::Refusal;
 
 // Tenths of a degree Celsius.
-#[derive(Clone, Copy)]
-pub struct Temperatures {
-    pub lowest: i16,
-    pub highest: i16,
-}
+pub type Temperatures = Limits<i16>;
 
 // Litres a minute.
-#[derive(Clone, Copy)]
-pub struct Flows {
-    pub lowest: u32,
-    pub highest: u32,
-}
+pub type Flows = Limits<u32>;
 
 // Height and diameter are in mm; days is how many are allowed between maintenance.
 #[derive(Clone, Copy)]
@@ -61,7 +56,17 @@ impl Site {
 
     pub const HOTTEST: i16 = 15_000;
 
+    pub const TEMPERATURES: Temperatures = Limits {
+        lowest: Site::COLDEST,
+        highest: Site::HOTTEST,
+    };
+
     pub const MOST_FLOW: u32 = 100_000;
+
+    pub const FLOWS: Flows = Limits {
+        lowest: 0,
+        highest: Site::MOST_FLOW,
+    };
 
     pub const LEAST_DAYS_MEASURED: u16 = 1;
 
@@ -121,7 +126,7 @@ impl Site {
         {
             return Err(Refusal::Size);
         }
-        if temperature.wrong() | flow.wrong() {
+        if temperature.wrong(Site::TEMPERATURES) | flow.wrong(Site::FLOWS) {
             return Err(Refusal::Spec);
         }
         if measured & self.is_open() {
@@ -131,25 +136,5 @@ impl Site {
             return Err(Refusal::Schedule);
         }
         Ok(())
-    }
-}
-
-impl Temperatures {
-    fn wrong(self) -> bool
-        ensures { result ≡ temperatures_wrong self }
-    {
-        ((self.lowest < Site::COLDEST) | (Site::HOTTEST < self.lowest))
-            | ((self.highest < Site::COLDEST) | (Site::HOTTEST < self.highest))
-            | (self.highest < self.lowest)
-    }
-}
-
-impl Flows {
-    fn wrong(self) -> bool
-        ensures { result ≡ flows_wrong self }
-    {
-        (Site::MOST_FLOW < self.lowest)
-            | (Site::MOST_FLOW < self.highest)
-            | (self.highest < self.lowest)
     }
 }
