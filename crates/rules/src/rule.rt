@@ -1,13 +1,12 @@
 // The first rule that applies: its number, and what it takes for lost.
 ghost use Rattle.std.specs.Prelude.{◌≡◌};
 ghost use Rattle.std.specs.Bool.{then_some};
-ghost use Rattle.exact.specs.Ranges.{outside, outside_z};
 ghost use Rattle.tool06.specs.declared.loss.Loss.TheVariants.{Share};
 ghost use Rattle.tool06.specs.Rules.{low_tenth, ruling, the_rule};
 
 use crate::class::class_of;
 use minute::Minute;
-use site::{Flows, Site, Temperatures};
+use site::Site;
 use tool06::{Class, Figures, Loss, Ruling};
 
 // The rule of this number, which takes so many millionths for lost, where the test holds.
@@ -18,19 +17,6 @@ fn share_if(test: bool, number: u8, millionths: u64) -> Option<Ruling>
         number,
         loss: Loss::Share(millionths),
     })
-}
-
-// The ends of each range are inside.
-fn temperature_unfit(range: Temperatures, celsius: i16) -> bool
-    ensures { result ≡ outside_z range.lowest range.highest celsius }
-{
-    (celsius < range.lowest) | (range.highest < celsius)
-}
-
-fn flow_unfit(range: Flows, litres: u32) -> bool
-    ensures { result ≡ outside range.lowest range.highest litres }
-{
-    (litres < range.lowest) | (range.highest < litres)
 }
 
 // The tenth that a low flare loses beside all else.
@@ -50,13 +36,14 @@ pub fn rule_of(site: Site, minute: Minute, in_time: bool) -> Ruling
 {
     let tenth = low_tenth(class_of(site));
     let by_default = Loss::DEFAULT + Loss::LOW * tenth;
+    let celsius = minute.temperature;
     let litres = minute.litres;
     let lit = minute.has(Minute::FLAME);
     let felt = minute.has(Minute::TEMPERATURE);
     let read = minute.has(Minute::EXHAUST);
     let open = site.is_open();
-    let celsius_unfit = temperature_unfit(site.temperature, minute.temperature);
-    let litres_unfit = flow_unfit(site.flow, litres);
+    let celsius_unfit = site.temperature.exclude(celsius);
+    let litres_unfit = site.flow.exclude(litres);
     let default = site.method == Site::DEFAULT;
     share_if(!(0 < litres), Figures::NO_GAS, Loss::ALL)
         .or(share_if(!lit, Figures::NO_FLAME, Loss::ALL))

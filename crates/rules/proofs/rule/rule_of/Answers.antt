@@ -1,6 +1,8 @@
 use borrow.Author.Rules.{sfits_of}
+use mathlib.Core.Path.{◌∙◌}
 use mir.Syntax.{w16}
 use mir.ValLaws.{to_z-of_z}
+use Rattle.site.proofs.Bounded.{flow_excluded, temperature_excluded}
 use Rattle.tool06.specs.Rules.{rule_lines, last_rule, the_rule}
 use Rattle.rules.proofs.Turns.{found_first}
 use Rattle.rules.proofs.rule.rule_of.Goals as goal
@@ -29,8 +31,8 @@ returns c =
       c.or.ensures,
       c.share_if-2.ensures,
       c.share_if.ensures,
-      c.flow_unfit-litres_unfit.ensures,
-      c.temperature_unfit-celsius_unfit.ensures,
+      c.exclude-litres_unfit.ensures ∙ flow_excluded a.site.flow a.minute.litres,
+      c.exclude-celsius_unfit.ensures ∙ temperature_excluded a.site.temperature _,
       to_z-of_z w16 a.minute.temperature (sfits_of c.struct_told-1.given.1.1.0.1),
       c.is_open-open.ensures,
       c.has-read.ensures,
