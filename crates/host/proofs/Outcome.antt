@@ -60,6 +60,10 @@ read-refused : (s : Site) (v : Result Unit Refusal) {r : Refusal} → answered s
 read-refused s (Ok tt) e = absurd (let z : ◌≡◌ {A = ℕ} 0 1 = cc in omega arith)
 read-refused s (Err r) e = cc
 
+pub examined : (site : List ℕ) {f : Site} → read_site site ≡ Ok f → Examined (site_of site)
+unfolding read_site
+examined site e = (split (site_head_lines site) (site_lines (site_of site)) (read_fields (site_of site) (first_of (site_head_lines site ++ site_lines (site_of site))) e).0).1
+
 pub same_fields : (site : List ℕ) {f : Site} → read_site site ≡ Ok f → f ≡ site_of site
 unfolding read_site
 same_fields site e = (read_fields (site_of site) (first_of (site_head_lines site ++ site_lines (site_of site))) e).1
@@ -102,11 +106,6 @@ module _ (site minute : List ℕ) (days : ℕ) (answer : List ℕ) where
 
   pub refused_as : {r : Refusal} → first_of (record_lines site minute answer) ≡ Err r → (m : Masses) → Err r ≡ judged_as m
   refused_as e m = sym (ap (answered (single_figures m site minute days)) (by-records e))
-
-  pub examined : first_of (record_lines site minute answer) ≡ Ok tt → Examined s
-  examined e =
-      let head = buffer_lines 25 answer ++ site_head_lines site in
-      (split head (site_lines s) (split (head ++ site_lines s) (minute_head_lines minute) e).0).1
 
   pub judged_as_lem : first_of (record_lines site minute answer) ≡ Ok tt → (m : Masses) → judged m (beyond_year s n) s n (since_in_time s days) ≡ judged_as m
   unfolding judged single_figures

@@ -3,7 +3,8 @@
 
 ghost use Rattle.std.specs.Prelude.{◌≡◌, length};
 ghost use Rattle.tool06.specs.Tool.{Masses, Positive};
-ghost use Rattle.host.specs.Single.{since_in_time, answer_bytes, single, returned, answer_after};
+ghost use Rattle.records.specs.House.{answered};
+ghost use Rattle.host.specs.Single.{since_in_time, answer_bytes, single, single_figures, returned, answer_after};
 
 use minute::Minute;
 use refusals::Refusal;
@@ -26,8 +27,10 @@ fn fill(answer: &mut [u8], figures: Figures)
     numbers::put(answer, 24, figures.rule);
 }
 
-// The figures, or the first of the refusals 1 to 9 and the minute's 1, 2 and 12 to 19.
-fn judged(site: &[u8], minute: &[u8], days: u16) -> Result<Figures, Refusal> {
+// The figures, or the first of the refusals 1 to 9 and the minute's 1, 2 and 12 to 19: what the call comes to with any buffer of the right size.
+fn judged(site: &[u8], minute: &[u8], days: u16) -> Result<Figures, Refusal>
+    ensures { (answer : _) → length answer ≡ 25 → (m : Masses) → Positive m → result ≡ answered (single_figures m site.now minute.now days) (single site.now minute.now answer) }
+{
     let site = reading::read_site(site)?;
     records::head(minute, Minute::BYTES, Minute::VERSION)?;
     judge::judge_single(site, reading::minute_in(minute), in_time(site, days))
