@@ -31,7 +31,6 @@ use Rattle.account.specs.scaffold.Small.{Small}
 use Rattle.account.specs.Opening.{open_lines, fresh, opened}
 use Rattle.account.specs.Promises.{OnlyOpened, RefusedStays}
 use Rattle.account.specs.declared.Account.{Account}
-use Rattle.account.specs.declared.open.Opened.{Opened}
 use Rattle.account.proofs.Accepted.{accepted}
 use Rattle.account.proofs.Opens.{opens_kept, list_is_kept, as_given, site_examined}
 use Rattle.account.proofs.Within.{year-within, one_if_within, gwp_times}
@@ -148,13 +147,22 @@ fresh_kept s days fine = record {
   rows_within = λ k. subst Within (sym (no_row k)) none_within;
 }
 
+-- opening gives the account of these fields, and nothing was refused
+pub opened_is : (s : Site) (days : List ℤ) {a : Account} → opened s days ≡ Ok a → (first_of (open_lines s days) ≡ Ok tt) × (a ≡ fresh s days)
+unfolding opened
+opened_is s days {a} e = by_verdict (first_of (open_lines s days)) refl
+  where
+    by_verdict : (v : Result Unit Refusal) → first_of (open_lines s days) ≡ v → (first_of (open_lines s days) ≡ Ok tt) × (a ≡ fresh s days)
+    by_verdict (Ok tt) fine = let given = rw fine at e in (fine, cc)
+    by_verdict (Err r) refused = let none = rw refused at e in absurd (let y : ◌≡◌ {A = ℕ} 0 1 = cc in omega arith)
+
+-- what opening gave is kept
+pub opened_kept : (s : Site) (days : List ℤ) {given : Result Account Refusal} {a : Account} → given ≡ opened s days → given ≡ Ok a → Kept a
+opened_kept s days is e = let told = opened_is s days (sym is ∙ e) in rw (told.1) (fresh_kept s days told.0)
+
 pub only-opened : OnlyOpened
 unfolding opened fresh
-only-opened s days = (λ k. as_given s days k.list_kept k.opens, fresh_kept s days)
-
--- what opening gave is kept where it refused nothing
-pub opened_kept : (s : Site) (days : List ℤ) {o : Opened} → o ≡ opened s days → o.verdict ≡ Ok tt → Kept o.account
-opened_kept s days {o} is fine = rw is ((only-opened s days).1 (ap (λ (x : Opened). x.verdict) (sym is) ∙ fine))
+only-opened s days = (λ k. rw (as_given s days k.list_kept k.opens) refl, opened_kept s days refl)
 
 pub refused_stays : RefusedStays
 unfolding add_to

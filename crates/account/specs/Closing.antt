@@ -1,6 +1,6 @@
 -- R47 to R49: CO2 equivalent, closing, and a chart point.
 use Rattle.refusals.specs.declared.refusal.Refusal.{Refusal}
-use Rattle.std.specs.Prelude.{Result, Ok, Err, ℕ, ◌*◌, not, [], ◌∷◌}
+use Rattle.std.specs.Prelude.{Result, ℕ, ◌*◌, not, [], ◌∷◌}
 use Rattle.exact.specs.Rounding.{ceil_div}
 use Rattle.refusals.specs.Tables.{when, first_of}
 use Rattle.refusals.specs.declared.refusal.Refusal.TheVariants.{Incomplete}

@@ -12,12 +12,12 @@ use Rattle.due.specs.Answer.{in_time_at, answer}
 use Rattle.account.specs.Adding.{due, add_to}
 use Rattle.account.specs.Closing.{co2e}
 use Rattle.account.specs.Kept.{Kept}
-use Rattle.account.specs.Opening.{opened}
+use Rattle.account.specs.Opening.{fresh, opened}
 use Rattle.account.specs.declared.Account.{Account}
 
--- R54: the account beside an opening is one that the calls take exactly where the opening was not refused
+-- R54: the calls take an account of these fields with no minute yet exactly where opening gives it
 abbrev pub OnlyOpened : Type 0
-OnlyOpened = (s : Site) (days : List ℤ) → Kept (opened s days).account ↔ ((opened s days).verdict ≡ Ok tt)
+OnlyOpened = (s : Site) (days : List ℤ) → Kept (fresh s days) ↔ (opened s days ≡ Ok (fresh s days))
 
 -- R58, R83: "A refusal returns its number and nothing else; the account .. stay[s]"
 abbrev pub RefusedStays : Type 0

@@ -25,7 +25,7 @@ pub struct Added {
 fn with_gas(rule: u8) -> u32
     ensures { result ≡ with_gas rule }
 {
-    if rule == Figures::NO_GAS { 0 } else { 1 }
+    u32::from(rule != Figures::NO_GAS)
 }
 
 // What one minute is worth.
