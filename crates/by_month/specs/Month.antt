@@ -1,6 +1,6 @@
 -- R92: the call for one month's row.
 use Rattle.refusals.specs.declared.refusal.Refusal.{Refusal}
-use Rattle.std.specs.Prelude.{Result, Ok, Err, ℕ, ◌*◌, List, [], ◌∷◌}
+use Rattle.std.specs.Prelude.{Result, ℕ, ◌*◌, List, [], ◌∷◌}
 use Rattle.exact.specs.Ranges.{outside}
 use Rattle.refusals.specs.Tables.{Line, when, first_of}
 use Rattle.refusals.specs.declared.refusal.Refusal.TheVariants.{Month}
