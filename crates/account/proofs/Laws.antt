@@ -19,7 +19,6 @@ use Rattle.sums.specs.declared.Sums.{Sums}
 use Rattle.sums.proofs.Laws.{none_within, plus_within}
 use Rattle.calendar.proofs.Months.{day_in_year, each_in_one}
 use Rattle.rows.specs.Rows.{row_of}
-use Rattle.rows.specs.scaffold.Only.{only}
 use Rattle.rows.proofs.Laws.{length_with_in, together_with_in, together_none, twelve_rows, no_row, row_at_most, rows-within_with}
 use Rattle.counts.proofs.Laws.{one_more_at, sum_more}
 use Rattle.tool06.specs.Tool.{Masses, Positive}
@@ -52,15 +51,6 @@ module _ (f : Figures) where
   unfolding worth
   gas_one = one_if_within (not (eqb f.rule 0))
 
-only-within : (here : Bool) {s : Sums} → Within s → Within (only here s)
-only-within true w = w
-only-within false w = none_within
-
-only_one : (here : Bool) (f : Figures) → ((only here (worth f)).minutes ≤ 1) × ((only here (worth f)).gas ≤ 1)
-unfolding no_sums
-only_one true f = (omega (arith, minutes_one f), gas_one f)
-only_one false f = (omega arith, omega arith)
-
 -- a row is at most the sums
 pub row_most : {a : Account} → Kept a → (k : ℕ) → ((row_of a.rows k).minutes ≤ a.sums.minutes) × ((row_of a.rows k).gas ≤ a.sums.gas)
 row_most {a} kept k = rw kept.rows_add_up at (row_at_most a.rows k)
@@ -84,16 +74,15 @@ module _ {a : Account} {f : Figures} (kept : Kept a) (small : Small f) (room : a
       }
 
   -- and into each row
-  pub row_fits : (here : Bool) (k : ℕ) → Fits (row_of a.rows k ⊞ only here (worth f))
+  pub row_fits : (k : ℕ) → Fits (row_of a.rows k ⊞ worth f)
   unfolding ◌⊞◌
-  row_fits here k =
+  row_fits k =
       let y = (year-within a.site.year).1 in
       let most = row_most kept k in
-      let one = only_one here f in
       record {
-        minutes_fit = omega (arith, most.0, one.0);
-        gas_fits = omega (arith, most.1, one.1, kept.gas_counted);
-        within = plus_within (kept.rows_within k) (only-within here small.worth_within);
+        minutes_fit = omega (arith, most.0, minutes_one f);
+        gas_fits = omega (arith, most.1, gas_one f, kept.gas_counted);
+        within = plus_within (kept.rows_within k) small.worth_within;
       }
 
   pub kept_with : Kept (with_minute a f)

@@ -11,7 +11,6 @@ use Rattle.counts.specs.Counts.{one_more}
 use Rattle.due.specs.Answer.{answer}
 use Rattle.due.specs.declared.Due.{Due}
 use Rattle.account.specs.declared.Account.{Account}
-use Rattle.account.specs.declared.add.Added.{Added}
 
 -- R51, R55, R56: a record is answered at the account's site and with its list, as the minute expected next, whose number is that of the minutes accepted so far
 abbrev pub due : Account → Due
@@ -45,5 +44,10 @@ after_answer a (Ok f) = with_minute a f
 after_answer a (Err r) = a
 
 -- R55, R56: the answer, and the account after it
+pub record Added : Type 0 where
+  pub answer : Result Figures Refusal
+  pub account : Account
+
+-- R55, R56: what adding a record comes to
 unfoldable pub add_to : Masses → Account → List ℕ → Added
 add_to m a b = record { answer = answer m (due a) b; account = after_answer a (answer m (due a) b) }

@@ -6,7 +6,6 @@ mod close;
 mod open;
 mod read;
 
-pub use add::Added;
 pub use close::Point;
 use maintenance::Maintenance;
 use rows::MONTHS;

@@ -1,4 +1,4 @@
--- Each row is the one made anew, with one more where it is the month's; and what that changes.
+-- What one more in the row of a month changes.
 use Prim.Native.Nat.{ℕ, zero, suc, ◌+◌, ◌-◌, ◌≤◌, ◌<◌}
 use mathlib.Core.Path.{◌≡◌, refl, sym, ap, ◌∙◌}
 use mathlib.Core.Bool.{Bool, true, false}
@@ -30,15 +30,6 @@ module _ (rows : List Sums) (month : ℕ) (one : Sums) where
       by_test false e =
           let other : k - 1 ≡ month - 1 → ⊥ = λ same. eqb-false month k e (omega arith) in
           get_or-set_other rows (month - 1) (k - 1) (row_of rows month ⊞ one) no_sums other ∙ sym (⊞-none (row_of rows k))
-
-  -- as the code makes it: the row at a place, January's at place 0
-  abbrev pub row_anew : ℕ → Sums
-  row_anew place = get_or rows place no_sums ⊞ only (eqb month (place + 1)) one
-
-  pub row_at : (place : ℕ) → 1 ≤ month → place < length rows → row_anew place ≡ get_or (with_in rows month one) place no_sums
-  row_at place m h =
-      let back : place + 1 - 1 ≡ place = omega arith in
-      sym (rw back at (row_with_in (place + 1) m (omega arith) (omega arith)))
 
 -- the rows together, once one is added at a place
 together-set : (rows : List Sums) (place : ℕ) (one : Sums) → place < length rows → together (set rows place (get_or rows place no_sums ⊞ one)) ≡ together rows ⊞ one

@@ -1,15 +1,14 @@
-use lib.Dec.{eqb}
 use Rattle.account.specs.Adding.{month_due, with_minute}
 use Rattle.account.proofs.Laws.{sums_fit, row_fits, month-due}
-use Rattle.account.proofs.Account.with_minute.Goals as goal
+use Rattle.account.proofs.Account.take.Goals as goal
 
-pub with_in-months-requires : goal.with_in-months-requires
-with_in-months-requires c =
+pub add_in-requires : goal.add_in-requires
+add_in-requires c =
     let p = c.requires in
-    let a = c.args.self in
+    let a = c.args.self.now in
     record {
       rows_len = rw c.month_of-month.ensures (p.kept.rows_all, (month-due a p.minutes_bound).0);
-      by_index = λ k. rw (c.month_of-month.ensures, c.worth-one.ensures) (row_fits p.kept p.small p.minutes_bound (eqb (month_due a) k) k);
+      fits = rw (c.month_of-month.ensures, c.worth-one.ensures) (row_fits p.kept p.small p.minutes_bound (month_due a));
     }
 
 pub plus-self-requires : goal.plus-self-requires
@@ -22,8 +21,8 @@ unfolding with_minute
 returns c =
     rw (
       c.plus-self.ensures,
-      c.with_in-months.ensures,
-      c.one_more-raised.ensures,
+      c.one_more.ensures,
+      c.add_in.ensures,
       c.month_of-month.ensures,
       c.worth-one.ensures,
     )
