@@ -2,7 +2,7 @@ use Rattle.std.proofs.Common.{◌≡◌, ℕ, suc, ◌-◌, ◌/◌, ◌%◌, �
 use Rattle.std.proofs.Math.Nat.{pow-suc, div-div-eq-div-mul}
 use Rattle.std.proofs.lemmas.Grind.{get_or-set_at}
 use Rattle.answers.specs.Digits.{hex_digit}
-use Rattle.answers.proofs.by_form.digits_of.Goals as goal
+use Rattle.answers.proofs.digits.digits_of.Goals as goal
 
 -- what is left once a digit more is cut off
 divided : (n i : ℕ) → 0 < i → i ≤ 16 → n / 16 ^ (16 - i) / 16 ≡ n / 16 ^ (16 - (i - 1))
@@ -16,9 +16,9 @@ digit : (n i left d : ℕ) (ds : List ℕ) → 0 < i → i ≤ 16 → length ds 
     → (k : ℕ) → i - 1 ≤ k → k < 16 → slice_index_or (slice_set ds (i - 1) d) k 0 ≡ hex_digit (n / 16 ^ (15 - k) % 16)
 digit n i left d ds pos le len l e behind k from below = grind (arith, get_or-set_at, get_or-set_other, behind, l, e)
 
-pub loop-i-preserved : goal.loop-i-preserved
-loop-i-preserved c =
-    let l = c.loop-i in
+pub loop-k-preserved : goal.loop-k-preserved
+loop-k-preserved c =
+    let l = c.loop-k in
     let v = l.invariant in
-    let cut : l.left / 16 ≡ c.args.n / 16 ^ (16 - (l.i - 1)) = rw v.2 (divided c.args.n l.i c.loop-i-test.true v.0) in
-    (omega arith, search rules, cut, digit c.args.n l.i l.left c.glyph.result l.digits c.loop-i-test.true v.0 v.1 v.2 c.glyph.ensures v.3)
+    let cut : l.left / 16 ≡ c.args.n / 16 ^ (16 - (l.k - 1)) = rw v.1 (divided c.args.n l.k c.loop-k-test.true l.auto.k) in
+    (search rules, cut, digit c.args.n l.k l.left c.glyph.result l.digits c.loop-k-test.true l.auto.k v.0 v.1 c.glyph.ensures v.2)
