@@ -1,129 +1,71 @@
 // Taking the words of a call from its line.
-ghost use Rattle.std.specs.Prelude.{◌≤◌, length};
-
-// The kinds of words: a number of one or two bytes and, by any other letter, of four; one of two bytes with a sign; bytes in hexadecimal.
-const BYTE: u8 = 49;
-
-const WORD: u8 = 50;
-
-pub const SIGNED: u8 = 115;
-
-pub(crate) const HEX: u8 = 120;
-
-// The bytes of a second record stand apart from the first one's.
-pub(crate) const SECOND: u8 = 121;
+use crate::word::{Kind, Word, next_word};
 
 pub const SECOND_AT: usize = 160_000;
 
-// No call has more words.
-const MOST: usize = 15;
-
-// Whether the words are as the call's form has them: a word is missing or left over, or the one at a place of the call's row is not of its kind.
-#[derive(Clone, Copy)]
-pub enum Fit {
-    Fits,
+// How the words are not as the call's form has them: one is missing or left over, or one is not of its kind.
+#[derive(Clone, Copy, PartialEq, Eq, Debug)]
+pub enum Misfit {
     Form,
-    Wrong { place: usize, kind: u8 },
+    Wrong(Word),
 }
 
-// Numbers as they are, in two's complement where they have a sign, and for bytes how many there are; and where the last word ends.
+// A number for each word of a call: numbers as they are, in two's complement where they have a sign, and for bytes how many there are. No call has more words.
 #[derive(Clone, Copy)]
-pub struct Taken {
-    pub values: [usize; 15],
-    pub end: usize,
-    pub fit: Fit,
-}
+pub struct Values([u32; 15]);
 
-fn of_number(number: Option<u32>) -> Option<usize> {
-    Some(number? as usize)
+impl Values {
+    // The number of the word at a place, 0 where it is none of this type.
+    pub fn number<N: TryFrom<u32> + Default + Drop>(&self, place: usize) -> N
+    where
+        <N as TryFrom<u32>>::Error: Drop,
+    {
+        N::try_from(self.0.get(place).copied().unwrap_or(0)).unwrap_or_default()
+    }
+
+    pub fn signed(&self, place: usize) -> i16 {
+        self.number::<u16>(place).cast_signed()
+    }
+
+    // The bytes of the word at a place, which stand from there on.
+    pub fn bytes<'b>(&self, place: usize, bytes: &'b [u8], from: usize) -> &'b [u8] {
+        let count = self.number::<u32>(place) as usize;
+        bytes.get(from..from.saturating_add(count)).unwrap_or(&[])
+    }
 }
 
 // The bytes that a word spells, put from a place on.
-fn of_hex(word: &[u8], bytes: &mut [u8], at: usize) -> Option<usize> {
-    if at <= bytes.len() {
-        if words::put_bytes(word, &mut bytes[at..]) {
-            return Some(word.len() / 2);
-        }
+fn count_of(word: &[u8], bytes: &mut [u8], from: usize) -> Option<u32> {
+    if words::put_bytes(word, bytes.get_mut(from..)?) {
+        u32::try_from(word.len() / 2).ok()
+    } else {
+        None
     }
-    None
 }
 
-// The most that a number without a sign may be.
-pub(crate) fn most_of(kind: u8) -> u32 {
+fn value_of(word: &[u8], kind: Kind, bytes: &mut [u8]) -> Option<u32> {
     match kind {
-        BYTE => 255,
-        WORD => 65_535,
-        _ => 4_294_967_295,
+        Kind::Byte => words::number_in(word, u8::MAX as u32),
+        Kind::Word => words::number_in(word, u16::MAX as u32),
+        Kind::Long => words::number_in(word, u32::MAX),
+        Kind::Signed => words::signed_in(word),
+        Kind::Hex => count_of(word, bytes, 0),
+        Kind::Second => count_of(word, bytes, SECOND_AT),
     }
 }
 
-fn value_of(word: &[u8], kind: u8, bytes: &mut [u8]) -> Option<usize> {
-    match kind {
-        HEX => of_hex(word, bytes, 0),
-        SECOND => of_hex(word, bytes, SECOND_AT),
-        SIGNED => of_number(words::signed_in(word)),
-        _ => of_number(words::number_in(word, most_of(kind))),
+// Takes these words in turn from what is left of a line behind its name, and answers what is left behind them.
+pub fn take<'l>(
+    words: &[Word],
+    line: &'l [u8],
+    bytes: &mut [u8],
+) -> Result<(Values, &'l [u8]), Misfit> {
+    let mut values = [0; 15];
+    let mut rest = line;
+    for (value, word) in values.iter_mut().zip(words) {
+        let (text, left) = next_word(rest).ok_or(Misfit::Form)?;
+        *value = value_of(text, word.1, bytes).ok_or(Misfit::Wrong(*word))?;
+        rest = left;
     }
-}
-
-// Takes a word of each kind in turn, from where the last word ends.
-pub fn take(line: &[u8], end: usize, kinds: &[u8], bytes: &mut [u8]) -> Taken
-    requires { end ≤ length line.now }
-    ensures { result.end ≤ length line.now }
-{
-    let mut values = [0usize; 15];
-    let mut end = end;
-    let mut place: usize = 0;
-    while place < kinds.len() {
-        if line.len() <= end {
-            return Taken {
-                values,
-                end,
-                fit: Fit::Form,
-            };
-        }
-        let from = end + 1;
-        end = words::end_of_word(line, from);
-        let kind = kinds[place];
-        match value_of(&line[from..end], kind, bytes) {
-            None => return Taken {
-                values,
-                end,
-                fit: Fit::Wrong {
-                    place: place + 1,
-                    kind,
-                },
-            },
-            Some(value) => {
-                if place < MOST {
-                    values[place] = value;
-                }
-            }
-        }
-        place = place + 1;
-    }
-    Taken {
-        values,
-        end,
-        fit: Fit::Fits,
-    }
-}
-
-// A value that was taken as a number of two bytes, or of four.
-pub fn u16_of(value: usize) -> u16 {
-    (value % 65_536) as u16
-}
-
-pub fn u32_of(value: usize) -> u32 {
-    (value % 4_294_967_296) as u32
-}
-
-// A part of the bytes, or none where they do not have it.
-pub fn part(bytes: &[u8], from: usize, count: usize) -> &[u8] {
-    if from <= bytes.len() {
-        if count <= bytes.len() - from {
-            return &bytes[from..from + count];
-        }
-    }
-    &bytes[0..0]
+    Ok((Values(values), rest))
 }
