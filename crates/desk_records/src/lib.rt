@@ -5,25 +5,18 @@ pub mod buffers;
 mod fields;
 mod runs;
 
-use forms::call::{CLASS, MINUTE, PART, SITE, WRITE_MINUTE, WRITE_SITE};
-use forms::take::{part, u32_of};
+use answers::Answers;
+use forms::call::RecordCall;
+use forms::take::Values;
 
 // What such a call answers; the bytes have the record that its line spells.
-pub fn of_records(
-    call: usize,
-    values: [usize; 15],
-    bytes: &[u8],
-    out: &mut [u8],
-    at: usize,
-) -> usize {
-    let record = part(bytes, 0, values[0]);
+pub fn of_records(call: RecordCall, values: Values, bytes: &[u8], out: &mut Answers) {
     match call {
-        SITE => fields::site(record, out, at),
-        MINUTE => fields::minute(record, out, at),
-        CLASS => fields::class(record, out, at),
-        WRITE_SITE => buffers::write_site(values, out, at),
-        WRITE_MINUTE => buffers::write_minute(values, out, at),
-        PART => runs::part(u32_of(values[0]), part(bytes, 0, values[1]), out, at),
-        _ => at,
+        RecordCall::Site => fields::site(values.bytes(0, bytes, 0), out),
+        RecordCall::Minute => fields::minute(values.bytes(0, bytes, 0), out),
+        RecordCall::Class => fields::class(values.bytes(0, bytes, 0), out),
+        RecordCall::WriteSite => buffers::write_site(values, out),
+        RecordCall::WriteMinute => buffers::write_minute(values, out),
+        RecordCall::Part => runs::part(values.number(0), values.bytes(1, bytes, 0), out),
     }
 }
