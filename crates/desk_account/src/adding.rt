@@ -2,11 +2,11 @@
 ghost use Rattle.account.specs.Kept.{Kept};
 ghost use Rattle.desk_account.specs.Desk.{Ready};
 
-use crate::turn::{Desk, Turn, no_account};
+use crate::turn::no_account;
 use account::{Account, Added};
-use answers::answer;
-use forms::take::part;
+use answers::Answers;
 use refusals::Refusal;
+use std::fmt::Write;
 
 // Adds a record; every account that the calls give stays one.
 fn add_to(account: Account, record: &[u8]) -> Added
@@ -16,104 +16,59 @@ fn add_to(account: Account, record: &[u8]) -> Added
     account.add(record)
 }
 
-pub fn add(desk: Desk, record: &[u8], out: &mut [u8], at: usize) -> Turn
-    requires { Ready desk }
-    ensures { Ready result.desk }
+pub fn add(desk: &mut Option<Account>, record: &[u8], out: &mut Answers)
+    requires { Ready desk.old }
+    ensures { Ready desk.new }
 {
-    if desk.open {
-        let expected = desk.account.minutes();
-        let added = add_to(desk.account, record);
-        let answer = added.answer;
-        let account = added.account;
-        Turn {
-            desk: Desk {
-                open: true,
-                account,
-            },
-            at: lines::put_minute(out, at, expected, answer),
-        }
-    } else {
-        Turn {
-            desk,
-            at: no_account(out, at),
-        }
-    }
+    let Some(account) = *desk else {
+        no_account(out);
+        return;
+    };
+    let added = add_to(account, record);
+    *desk = Some(added.account);
+    lines::put_minute(&mut out.page, account.minutes(), added.answer);
 }
 
-// How often a record was taken, and the refusal that ended it, if one did.
+// How often a record was taken, and the refusal that ended it.
 #[derive(Clone, Copy)]
-struct Filled {
-    account: Account,
+struct Stopped {
     taken: u32,
-    verdict: Result<(), Refusal>,
+    refusal: Refusal,
 }
 
-// Adds the record of so many bytes a number of times, each time under the minute expected, up to a refusal.
-fn fill_up(account: Account, count: u32, bytes: &mut [u8], size: usize) -> Filled
-    requires { Kept account }
-    ensures { Kept result.account }
+// Adds a record a number of times, each time under the minute expected, up to a refusal.
+fn fill_up(account: &mut Account, count: u32, record: &mut [u8]) -> Result<(), Stopped>
+    requires { Kept account.old }
+    ensures { Kept account.new }
 {
-    let mut current = account;
-    let mut taken: u32 = 0;
-    while taken < count {
-        numbers::put(bytes, 3, current.minutes());
-        let added = add_to(current, part(bytes, 0, size));
-        let answer = added.answer;
-        if let Err(refusal) = answer {
-            return Filled {
-                account: current,
-                taken,
-                verdict: Result<(), Refusal>::Refuse(refusal),
-            };
+    for taken in 0..count {
+        numbers::put(record, 3, account.minutes());
+        let added = add_to(*account, record);
+        if let Err(refusal) = added.answer {
+            return Err(Stopped { taken, refusal });
         }
-        current = added.account;
-        taken = taken + 1;
+        *account = added.account;
     }
-    Filled {
-        account: current,
-        taken,
-        verdict: Result<(), Refusal>::Fine,
-    }
+    Ok(())
 }
 
-fn put_filled(out: &mut [u8], at: usize, taken: u32, minute: u32, verdict: Result<(), Refusal>) -> usize {
-    match verdict {
-        Ok(()) => answer(out, at, b"taken %u\n", &[taken as u64]),
-        Err(refusal) => answer(
+pub fn fill(desk: &mut Option<Account>, count: u32, record: &mut [u8], out: &mut Answers)
+    requires { Ready desk.old }
+    ensures { Ready desk.new }
+{
+    let Some(mut account) = *desk else {
+        no_account(out);
+        return;
+    };
+    let filled = fill_up(&mut account, count, record);
+    *desk = Some(account);
+    let _ = match filled {
+        Ok(()) => write!(out, "taken {count}\n"),
+        Err(Stopped { taken, refusal }) => write!(
             out,
-            at,
-            b"taken %u minute %u refused %u\n",
-            &[taken as u64, minute as u64, refusal.number() as u64],
+            "taken {taken} minute {} refused {}\n",
+            account.minutes(),
+            refusal.number(),
         ),
-    }
-}
-
-pub fn fill(
-    desk: Desk,
-    count: u32,
-    bytes: &mut [u8],
-    size: usize,
-    out: &mut [u8],
-    at: usize,
-) -> Turn
-    requires { Ready desk }
-    ensures { Ready result.desk }
-{
-    if desk.open {
-        let filled = fill_up(desk.account, count, bytes, size);
-        let account = filled.account;
-        let verdict = filled.verdict;
-        Turn {
-            desk: Desk {
-                open: true,
-                account,
-            },
-            at: put_filled(out, at, filled.taken, account.minutes(), verdict),
-        }
-    } else {
-        Turn {
-            desk,
-            at: no_account(out, at),
-        }
-    }
+    };
 }
