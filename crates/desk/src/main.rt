@@ -6,81 +6,55 @@ mod answer;
 mod checking;
 mod hearing;
 
-ghost use Rattle.std.specs.Prelude.{◌≡◌, length};
 ghost use Rattle.desk_account.specs.Desk.{Ready};
 
-use account::Account;
-use desk_account::turn::Desk;
-use forms::take::part;
-use hearing::{Heard, end, hear, print, read_more};
+use answers::Answers;
+use hearing::{Failed, Line, end, hear, print, read_more};
 use std::io::Read;
+use text::Page;
 
-// More chunks than any input has.
-const CHUNKS: u64 = 18_446_744_073_709_551_615;
-
-// Room for the longest line, two days of records and more than the words before them; and for the bytes of its records.
-fn line_buffer() -> [u8; 320_000]
-    ensures { 320000 ≡ length result }
-{
-    [0; 320_000]
-}
-
-// Room for the longest answer behind those that wait.
-fn answer_buffer() -> [u8; 400_000]
-    ensures { 400000 ≡ length result }
-{
-    [0; 400_000]
-}
-
-// No account is open, and the one that stands there takes no minute.
-fn nobody() -> Desk
-    ensures { Ready result }
-{
-    let opened = Account::open(reading::site_in(&[]), &[]);
-    let account = opened.account;
-    Desk {
-        open: false,
-        account,
-    }
-}
-
-// Hears the input to its end, and prints the answers before it waits for more. Answers whether all went well.
+// Hears the input to its end, and prints the answers before it waits for more.
 fn talk(
     rt: &(impl Print + Eprint),
     input: &mut impl Read,
     chunk: &mut [u8],
-    line: &mut [u8],
+    line: &mut Line,
     bytes: &mut [u8],
-    out: &mut [u8],
-) -> bool {
-    let mut heard = Heard {
-        desk: nobody(),
-        length: 0,
-        at: 0,
-        lost: false,
-    };
-    for _ in 0..CHUNKS {
-        let more = read_more(rt, input, chunk);
-        let count = more.count;
+    out: &mut Answers,
+) -> Result<(), Failed> {
+    let mut desk = None;
+    for _ in 0..u64::MAX {
+        let count = read_more(rt, input, chunk)?;
         if count == 0 {
-            return end(rt, more.well, heard.desk, heard.length, line, bytes, out);
+            return end(rt, &mut desk, line, bytes, out);
         }
-        let came = part(chunk, 0, count);
-        heard = hear(rt, heard.desk, heard.length, came, line, bytes, out);
-        let printed = print(rt, out, heard.at);
-        if !printed | heard.lost {
-            return false;
-        }
+        let came = chunk.get(..count).unwrap_or(&[]);
+        hear(rt, &mut desk, came, line, bytes, out)?;
+        print(rt, out)?;
     }
-    false
+    Err(Failed)
 }
 
+// The longest line has two days of records, and more than the words before them.
+const LINE: usize = 320_000;
+
 fn main(rt: HostRuntime) {
-    let mut chunk = [0u8; 65_536];
-    let mut line = line_buffer();
-    let mut bytes = line_buffer();
-    let mut out = answer_buffer();
-    let well = talk(
+    let mut chunk = [0; 65_536];
+    let mut heard = [0; LINE];
+    let mut bytes = [0; LINE];
+    // Room for the longest answer behind those that wait.
+    let mut waiting = [0; 400_000];
+    let mut line = Line {
+        buffer: &mut heard,
+        heard: Some(0),
+    };
+    let mut out = Answers {
+        page: Page {
+            buffer: &mut waiting,
+            at: 0,
+        },
+    };
+    let talked = talk(
         &rt,
         &mut rt.stdin(),
         &mut chunk,
@@ -89,6 +63,6 @@ fn main(rt: HostRuntime) {
         &mut out,
     );
     if launcher::asked(&rt, b"--status") {
-        launcher::tell(&rt, if well { 0 } else { 2 });
+        launcher::tell(&rt, if talked.is_ok() { 0 } else { 2 });
     }
 }
