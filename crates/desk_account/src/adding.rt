@@ -3,15 +3,16 @@ ghost use Rattle.account.specs.Kept.{Kept};
 ghost use Rattle.desk_account.specs.Desk.{Ready};
 
 use crate::turn::no_account;
-use account::{Account, Added};
+use account::Account;
 use answers::Answers;
 use refusals::Refusal;
 use std::fmt::Write;
+use tool06::Figures;
 
 // Adds a record; every account that the calls give stays one.
-fn add_to(account: Account, record: &[u8]) -> Added
-    requires { Kept account }
-    ensures { Kept result.account }
+fn add_to(account: &mut Account, record: &[u8]) -> Result<Figures, Refusal>
+    requires { Kept account.old }
+    ensures { Kept account.new }
 {
     account.add(record)
 }
@@ -20,13 +21,14 @@ pub fn add(desk: &mut Option<Account>, record: &[u8], out: &mut Answers)
     requires { Ready desk.old }
     ensures { Ready desk.new }
 {
-    let Some(account) = *desk else {
-        no_account(out);
-        return;
-    };
-    let added = add_to(account, record);
-    *desk = Some(added.account);
-    lines::put_minute(&mut out.page, account.minutes(), added.answer);
+    match desk {
+        Some(account) => {
+            let expected = account.minutes();
+            let answer = add_to(account, record);
+            lines::put_minute(&mut out.page, expected, answer);
+        }
+        None => no_account(out),
+    }
 }
 
 // How often a record was taken, and the refusal that ended it.
@@ -43,32 +45,33 @@ fn fill_up(account: &mut Account, count: u32, record: &mut [u8]) -> Result<(), S
 {
     for taken in 0..count {
         numbers::put(record, 3, account.minutes());
-        let added = add_to(*account, record);
-        if let Err(refusal) = added.answer {
+        if let Err(refusal) = add_to(account, record) {
             return Err(Stopped { taken, refusal });
         }
-        *account = added.account;
     }
     Ok(())
+}
+
+fn put_filled(out: &mut Answers, count: u32, minute: u32, filled: Result<(), Stopped>) {
+    let _ = match filled {
+        Ok(()) => write!(out, "taken {count}\n"),
+        Err(Stopped { taken, refusal }) => write!(
+            out,
+            "taken {taken} minute {minute} refused {}\n",
+            refusal.number(),
+        ),
+    };
 }
 
 pub fn fill(desk: &mut Option<Account>, count: u32, record: &mut [u8], out: &mut Answers)
     requires { Ready desk.old }
     ensures { Ready desk.new }
 {
-    let Some(mut account) = *desk else {
-        no_account(out);
-        return;
-    };
-    let filled = fill_up(&mut account, count, record);
-    *desk = Some(account);
-    let _ = match filled {
-        Ok(()) => write!(out, "taken {count}\n"),
-        Err(Stopped { taken, refusal }) => write!(
-            out,
-            "taken {taken} minute {} refused {}\n",
-            account.minutes(),
-            refusal.number(),
-        ),
-    };
+    match desk {
+        Some(account) => {
+            let filled = fill_up(account, count, record);
+            put_filled(out, count, account.minutes(), filled);
+        }
+        None => no_account(out),
+    }
 }
