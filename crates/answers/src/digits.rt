@@ -1,5 +1,5 @@
 // Digits in hexadecimal.
-ghost use Rattle.std.specs.Prelude.{◌≡◌, ◌-◌, ◌/◌, ◌%◌, ◌^◌, ◌<◌, length, slice_index, EachIndex};
+ghost use Rattle.std.specs.Prelude.{◌≡◌, ◌-◌, ◌/◌, ◌%◌, ◌^◌, ◌<◌, [], ◌∷◌, length, slice_index, EachIndex};
 ghost use Rattle.answers.specs.Digits.{hex_digit};
 
 fn glyph(digit: u8) -> u8
@@ -14,7 +14,9 @@ fn glyph(digit: u8) -> u8
 }
 
 // A byte's two digits.
-pub(crate) fn pair_of(byte: u8) -> [u8; 2] {
+pub(crate) fn pair_of(byte: u8) -> [u8; 2]
+    ensures { result ≡ hex_digit (byte / 16) ∷ hex_digit (byte % 16) ∷ [] }
+{
     [glyph(byte / 16), glyph(byte % 16)]
 }
 

@@ -3,7 +3,8 @@
 
 mod digits;
 
-ghost use Rattle.std.specs.Prelude.{◌≤◌, ◌+◌, length, IsTrue};
+ghost use Rattle.std.specs.Prelude.{◌≡◌, ◌<◌, ◌≤◌, ◌+◌, ◌↔◌, length, IsTrue};
+ghost use Rattle.text.specs.Places.{Puts};
 
 use digits::{digits_of, pair_of};
 use refusals::Refusal;
@@ -19,12 +20,15 @@ pub struct Answers<'a> {
 
 impl Answers<'_> {
     fn has_room(&self, count: usize) -> bool
-        ensures { IsTrue result → self.now.page.at + count ≤ length self.now.page.buffer.now }
+        ensures { IsTrue result ↔ (self.now.page.at + count ≤ length self.now.page.buffer.now) }
     {
         self.page.at <= self.page.buffer.len() && count <= self.page.buffer.len() - self.page.at
     }
 
-    pub fn text(&mut self, words: &[u8]) {
+    pub fn text(&mut self, words: &[u8])
+        ensures room { self.old.page.at + length words.now ≤ length self.old.page.buffer.now → Puts self.old.page words.now self.new.page }
+        ensures no_room { length self.old.page.buffer.now < self.old.page.at + length words.now → (self.new.page.buffer.now ≡ self.old.page.buffer.now) × (self.new.page.at ≡ self.old.page.at) }
+    {
         if self.has_room(words.len()) {
             self.page.text(words);
         }

@@ -1,4 +1,6 @@
 // The calls, and the form of each.
+ghost use Rattle.std.specs.Prelude.{◌≡◌, IfSome};
+
 use crate::word::{Kind, Word};
 use std::fmt;
 
@@ -191,7 +193,9 @@ pub(crate) const FORMS: [Form; 16] = [
 ];
 
 // The form of the call that has a name.
-pub fn form_of(name: &[u8]) -> Option<Form> {
+pub fn form_of(name: &[u8]) -> Option<Form>
+    ensures { IfSome result (λ form. form.name.now ≡ name.now) }
+{
     FORMS
         .iter()
         .find(|form| form.name.as_bytes() == name)

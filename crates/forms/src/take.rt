@@ -1,4 +1,6 @@
 // Taking the words of a call from its line.
+ghost use Rattle.std.specs.Prelude.{◌≤◌, length, IfOk};
+
 use crate::word::{Kind, Word, next_word};
 
 pub const SECOND_AT: usize = 160_000;
@@ -59,7 +61,9 @@ pub fn take<'l>(
     words: &[Word],
     line: &'l [u8],
     bytes: &mut [u8],
-) -> Result<(Values, &'l [u8]), Misfit> {
+) -> Result<(Values, &'l [u8]), Misfit>
+    ensures { IfOk result (λ taken. length taken.1.now ≤ length line.now) }
+{
     let mut values = [0; 15];
     let mut rest = line;
     for (value, word) in values.iter_mut().zip(words) {

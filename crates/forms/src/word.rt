@@ -1,5 +1,6 @@
 // The kinds of words, and the words of a line one after the other.
-ghost use Rattle.std.specs.Prelude.{◌<◌, length, IfSome};
+ghost use Rattle.std.specs.Prelude.{◌≡◌, ◌<◌, ◌↔◌, ◌++◌, [], length, drop, IfSome, IsNone};
+ghost use Rattle.words.specs.Words.{until_space};
 
 use std::fmt;
 
@@ -39,7 +40,10 @@ impl fmt::Display for Word {
 
 // The next word of what is left of a line behind a word, and what is left behind that.
 pub fn next_word(rest: &[u8]) -> Option<(&[u8], &[u8])>
-    ensures { IfSome result (λ next. length next.1.now < length rest.now) }
+    ensures none { IsNone result ↔ (rest.now ≡ []) }
+    ensures next { IfSome result (λ next. next.0.now ++ next.1.now ≡ drop 1 rest.now) }
+    ensures word { IfSome result (λ next. length next.0.now ≡ length (until_space (drop 1 rest.now))) }
+    ensures shorter { IfSome result (λ next. length next.1.now < length rest.now) }
 {
     let (_, rest) = rest.split_first()?;
     Some(rest.split_at(words::end_of_word(rest, 0)))
