@@ -81,3 +81,9 @@ front_copied b xs n e =
     let f : n ≡ min (length xs) (length b) = omega arith in
     ap₂ ◌++◌ (ap (λ (j : ℕ). take j xs) e ∙ take_min (length b) xs) (ap (λ (j : ℕ). drop j b) f ∙ drop_min (length xs) b)
     ∙ front_put b xs
+
+-- the first cells of b where it has as many
+pub first_cells : (n : ℕ) (b : List ℕ) → n ≤ length b → take n b ≡ cells n b 0
+first_cells zero b h = refl
+first_cells (suc n) [] h = absurd (omega arith)
+first_cells (suc n) (x ∷ b) h = ap (λ (l : List ℕ). x ∷ l) (first_cells n b (omega arith) ∙ sym (cells_of_tail n (x ∷ b) 1 0))

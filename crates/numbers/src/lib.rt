@@ -13,9 +13,11 @@ pub trait Number: Copy {
 
     ghost number: { Self → ℕ };
 
+    // What the first bytes of b hold.
     fn first(b: &[u8]) -> Self
         ensures { result ≡ of (number_at size b.now 0) };
 
+    // Puts the value's bytes first, as far as b goes.
     fn put_first(self, b: &mut [u8])
         ensures { b.new ≡ put b.old 0 (bytes_of size (number self)) };
 }
@@ -35,6 +37,7 @@ pub fn put<N: Number>(b: &mut [u8], k: usize, x: N)
     x.put_first(&mut b[start..]);
 }
 
+// Puts these bytes first, as far as b goes.
 fn put_front(b: &mut [u8], bytes: &[u8])
     ensures { b.new ≡ put b.old 0 bytes.now }
 {
@@ -42,10 +45,13 @@ fn put_front(b: &mut [u8], bytes: &[u8])
     b[..n].copy_from_slice(&bytes[..n]);
 }
 
-// The first bytes of b, with 0 for those past its end.
+// The first bytes of b, with 0 for those past its end. Where all are there, they are loaded as one.
 fn front<const N: usize>(b: &[u8]) -> [u8; N]
     ensures { result ≡ cells N b.now 0 }
 {
+    if let Some(whole) = b.first_chunk() {
+        return *whole;
+    }
     let mut bytes = [0; N];
     put_front(&mut bytes, b);
     bytes

@@ -44,6 +44,6 @@ pub fn minute_in(b: &[u8]) -> Minute
         temperature: numbers::at(b, 8),
         litres: numbers::at(b, 10),
         gas: gas_in(b),
-        exhaust: exhaust,
+        exhaust,
     }
 }

@@ -33,8 +33,8 @@ pub fn site_in(b: &[u8]) -> Site
         gwp: numbers::at(b, 6),
         height: numbers::at(b, 8),
         diameter: numbers::at(b, 12),
-        temperature: temperature,
-        flow: flow,
+        temperature,
+        flow,
         days: numbers::at(b, 28),
     }
 }
