@@ -121,7 +121,6 @@ impl Number for u64 {
     }
 }
 
-// Two's complement.
 impl Number for i16 {
     ghost size = { 2 };
 
@@ -130,15 +129,15 @@ impl Number for i16 {
     ghost number = { unsigned };
 
     fn first(b: &[u8]) -> i16 {
-        i16::from_be_bytes(front(b))
+        signed(u16::first(b))
     }
 
     fn put_first(self, b: &mut [u8]) {
-        put_front(b, &i16::to_be_bytes(self));
+        unsigned(self).put_first(b);
     }
 }
 
-// The signed number that two bytes hold, and its two bytes.
+// Two's complement: the signed number that two bytes hold, and its two bytes.
 pub fn signed(x: u16) -> i16
     ensures { result ≡ signed x }
 {
