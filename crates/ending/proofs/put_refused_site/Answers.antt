@@ -1,6 +1,6 @@
 use native.Mathlib.Omega.{arith}
-use Rattle.room.proofs.Placing.{whole, at_start}
+use Rattle.room.proofs.Placing.{whole}
 use Rattle.ending.proofs.put_refused_site.Goals as goal
 
 pub returns : goal.returns
-returns c = at_start (whole (omega arith) c.put_site.ensures)
+returns c = let line = whole (omega arith) c.put_site.ensures in (omega arith, line.holds)
