@@ -13,16 +13,16 @@ use Rattle.room.specs.Places.{has_room, placed, place_after, PutsLine}
 
 pub there : {a b : Page} {line : List ℕ} → a.at + 163 ≤ length a.buffer.now → Puts a line b → PutsLine a line b
 unfolding placed place_after
-there h w = record { place = rw (le-leb _ _ h) w.place; holds = rw (le-leb _ _ h) w.holds; long = w.long }
+there h w = record { place = rw (le-leb _ _ h) w.place; holds = rw (le-leb _ _ h) w.holds; long = w.long; same_reference = w.same_reference }
 
 pub nowhere : (a : Page) (line : List ℕ) → length a.buffer.now < a.at + 163 → PutsLine a line a
 unfolding placed place_after
-nowhere a line h = record { place = rw (lt-leb _ _ h); holds = rw (lt-leb _ _ h); long = refl }
+nowhere a line h = record { place = rw (lt-leb _ _ h); holds = rw (lt-leb _ _ h); long = refl; same_reference = refl }
 
 -- an empty line changes nothing
 pub no_line : (a : Page) {line : List ℕ} → line ≡ [] → PutsLine a line a
 unfolding placed place_after put
-no_line a e = record { place = rw (e, add-zero) (same_place (has_room a.buffer.now a.at)); holds = rw e (same_bytes (has_room a.buffer.now a.at)); long = refl }
+no_line a e = record { place = rw (e, add-zero) (same_place (has_room a.buffer.now a.at)); holds = rw e (same_bytes (has_room a.buffer.now a.at)); long = refl; same_reference = refl }
   where
     same_place : (t : Bool) → a.at ≡ cond t a.at a.at
     same_place true = refl
@@ -35,4 +35,4 @@ no_line a e = record { place = rw (e, add-zero) (same_place (has_room a.buffer.n
 -- a line that is put where there is room for any line stands there whole
 pub whole : {a b : Page} {line : List ℕ} → a.at + 163 ≤ length a.buffer.now → PutsLine a line b → Puts a line b
 unfolding placed place_after
-whole h p = record { holds = rw (le-leb _ _ h) at p.holds; place = rw (le-leb _ _ h) at p.place; long = p.long }
+whole h p = record { holds = rw (le-leb _ _ h) at p.holds; place = rw (le-leb _ _ h) at p.place; long = p.long; same_reference = p.same_reference }

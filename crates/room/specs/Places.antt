@@ -15,8 +15,9 @@ placed buffer at line = cond (has_room buffer at) (put buffer at line) buffer
 unfoldable pub place_after : List ℕ → ℕ → List ℕ → ℕ
 place_after buffer at line = cond (has_room buffer at) (at + length line) at
 
--- R75: a line put on a page, from its place on, if there is room for any line there; the buffer is as long as before
+-- R75: a line put on a page, from its place on, if there is room for any line there; the buffer is the same, and as long as before
 pub record PutsLine (before : Page) (line : List ℕ) (after : Page) : Type 0 where
   pub place : after.at ≡ place_after before.buffer.now before.at line
   pub holds : after.buffer.now ≡ placed before.buffer.now before.at line
   pub long : length after.buffer.now ≡ length before.buffer.now
+  pub same_reference : after.buffer.ghost_name ≡ before.buffer.ghost_name

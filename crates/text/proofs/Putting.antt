@@ -44,6 +44,7 @@ onwards {a = a} {xs = xs} {ys = ys} p q =
       holds = q.holds ∙ rw (p.holds, p.place) (put-put a.buffer.now a.at xs ys);
       place = rw (length-append xs ys) (omega (arith, p.place, q.place));
       long = q.long ∙ p.long;
+      same_reference = q.same_reference ∙ p.same_reference;
     }
 
 -- what is put on a page stands in its buffer

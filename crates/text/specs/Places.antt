@@ -8,8 +8,9 @@ pub record PutFrom (buffer : List ℕ) (at : ℕ) (text : List ℕ) (after : Lis
   pub holds : after ≡ put buffer at text
   pub place : next ≡ at + length text
 
--- R75: text put on a page, from its place on: what the buffer then holds, which is as long as before, and the place after the text
+-- R75: text put on a page, from its place on: what the buffer then holds, which is the same buffer, as long as before, and the place after the text
 pub record Puts (before : Page) (text : List ℕ) (after : Page) : Type 0 where
   pub holds : after.buffer.now ≡ put before.buffer.now before.at text
   pub place : after.at ≡ before.at + length text
   pub long : length after.buffer.now ≡ length before.buffer.now
+  pub same_reference : after.buffer.ghost_name ≡ before.buffer.ghost_name
