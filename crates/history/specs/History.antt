@@ -7,7 +7,7 @@ use Rattle.tool06.specs.Bounds.{Entry}
 use Rattle.tool06.specs.Tool.{Masses}
 use Rattle.due.specs.Answer.{entry, answer}
 use Rattle.account.specs.Adding.{due, add_to}
-use Rattle.account.specs.Opening.{opened}
+use Rattle.account.specs.Opening.{fresh, opened}
 use Rattle.account.specs.declared.Account.{Account}
 
 -- R59: the calls that take an account, with the bytes lent to them or the month asked for; reading one of its numbers gives no account and needs no place here
@@ -41,5 +41,5 @@ minutes_after m a es (month k) = es
 
 -- R59: the account after an opening with this site and this list that was not refused, and any calls; and the minutes accepted, in their order
 pub data Reached (m : Masses) (s : Site) (days : List ℤ) : Account → List Entry → Type 0 where
-  at_first : (opened s days).verdict ≡ Ok tt → Reached m s days (opened s days).account []
+  at_first : opened s days ≡ Ok (fresh s days) → Reached m s days (fresh s days) []
   then : {a : Account} {es : List Entry} → Reached m s days a es → (c : Call) → Reached m s days (account_after m a c) (minutes_after m a es c)

@@ -35,31 +35,26 @@ use Rattle.by_month.specs.Month.{month_lines, month_row, month_asked}
 use Rattle.run.specs.Check.{first_refused, whole_or, checked}
 use Rattle.day.specs.Part.{day_part}
 use Rattle.host.specs.Single.{single_lines, single, single_figures, returned, answer_bytes, answer_after}
-use Rattle.promises.specs.Numbers.{Said, given, refused, said_of_site, said_of_minute, said_of_judged, said_of_closed, said_of_asked, said_of_verdict, said_of_checked, said_of_class, decides}
+use Rattle.promises.specs.Numbers.{Said, given, refused, said_of_site, said_of_minute, said_of_opened, said_of_judged, said_of_closed, said_of_asked, said_of_verdict, said_of_checked, said_of_class, decides}
 use Rattle.promises.specs.Calls.{ReadingASite, ReadingAMinute, WritingASite, WritingAMinute, OpeningAnAccount, AddingAMinute, ClosingAYear, Charting, AskingAMonth, TakingADay, ASingleMinute, Classing, or_later, first_said, CheckingARun, NumbersOfCalls, RefusedChangesNothing}
 
--- an answer of any type whose cases are values and a refusal
+-- an answer of any type, which is a value or a refusal
 by-table :
-    {R A : Type 0} (F : A → R) (why : Refusal → R) (say : R → Said A) (v : A)
-    → say (F v) ≡ given v
-    → ((r : Refusal) → say (why r) ≡ refused r)
+    {A : Type 0} (say : Result A Refusal → Said A) (v : A)
+    → say (Ok v) ≡ given v
+    → ((r : Refusal) → say (Err r) ≡ refused r)
     → (t : List Line) → say (answered v (first_of t)) ≡ decides t v
-by-table F why say v fine refuse [] = fine
-by-table F why say v fine refuse (when true r ∷ t) = refuse r
-by-table F why say v fine refuse (when false r ∷ t) = by-table F why say v fine refuse t
-
-by-verdict : {A : Type 0} (v : A) (t : List Line) → said_of_verdict v (first_of t) ≡ decides t v
-by-verdict v [] = refl
-by-verdict v (when true r ∷ t) = refl
-by-verdict v (when false r ∷ t) = by-verdict v t
+by-table say v fine refuse [] = fine
+by-table say v fine refuse (when true r ∷ t) = refuse r
+by-table say v fine refuse (when false r ∷ t) = by-table say v fine refuse t
 
 reading_a_site : ReadingASite
 unfolding read_site head_lines site_lines
-reading_a_site b = record { in_order = refl; decided = by-table Ok Err said_of_site (site_of b) refl (λ r. refl) (site_head_lines b ++ site_lines (site_of b)) }
+reading_a_site b = record { in_order = refl; decided = by-table said_of_site (site_of b) refl (λ r. refl) (site_head_lines b ++ site_lines (site_of b)) }
 
 reading_a_minute : ReadingAMinute
 unfolding read_minute head_lines minute_lines
-reading_a_minute b = record { in_order = refl; decided = by-table Ok Err said_of_minute (minute_of b) refl (λ r. refl) (minute_head_lines b ++ alone_lines (minute_of b)) }
+reading_a_minute b = record { in_order = refl; decided = by-table said_of_minute (minute_of b) refl (λ r. refl) (minute_head_lines b ++ alone_lines (minute_of b)) }
 
 -- a lent buffer holds the values where nothing is refused
 by_written : (own image : List ℕ) (t : List Line) → said_of_verdict (written own image (first_of t)) (first_of t) ≡ decides t image
@@ -77,19 +72,19 @@ writing_a_minute n out = record { in_order = refl; decided = by_written out (min
 
 opening_an_account : OpeningAnAccount
 unfolding opened open_lines site_lines
-opening_an_account s days = record { in_order = refl; decided = by-verdict (fresh s days) (open_lines s days) }
+opening_an_account s days = record { in_order = refl; decided = by-table said_of_opened (fresh s days) refl (λ r. refl) (open_lines s days) }
 
 adding_a_minute : AddingAMinute
 unfolding add_to answer add_lines head_lines minute_lines
-adding_a_minute m a b = record { in_order = refl; decided = by-table Ok Err said_of_judged (figures_of m (entry (due a) b)) refl (λ r. refl) (add_lines (due a) b) }
+adding_a_minute m a b = record { in_order = refl; decided = by-table said_of_judged (figures_of m (entry (due a) b)) refl (λ r. refl) (add_lines (due a) b) }
 
 closing_a_year : ClosingAYear
 unfolding closing
-closing_a_year a = record { in_order = refl; decided = by-table Ok Err said_of_closed (ceil_div (co2e a) 1000000000) refl (λ r. refl) (when (not (is_full (due a))) Incomplete ∷ []) }
+closing_a_year a = record { in_order = refl; decided = by-table said_of_closed (ceil_div (co2e a) 1000000000) refl (λ r. refl) (when (not (is_full (due a))) Incomplete ∷ []) }
 
 asking_a_month : AskingAMonth
 unfolding month_asked
-asking_a_month a k = record { in_order = refl; decided = by-table Ok Err said_of_asked (month_row a k) refl (λ r. refl) (month_lines k) }
+asking_a_month a k = record { in_order = refl; decided = by-table said_of_asked (month_row a k) refl (λ r. refl) (month_lines k) }
 
 same_number : {A : Type 0} (v : A) (w : Result Unit Refusal) → returned w ≡ (said_of_verdict v w).number
 unfolding returned

@@ -1,5 +1,6 @@
 -- R58: the number and the values of each answer's cases.
 use Rattle.run.specs.declared.Refused.{Refused}
+use Rattle.run.specs.declared.Refused.TheVariants.{Run, At}
 use Rattle.std.specs.Prelude.{Result, Ok, Err, ℕ, zero, suc, ◌-◌, ◌≡◌, true, false, List, [], ◌∷◌}
 use Prim.Native.String.{String}
 use Rattle.std.proofs.Math.Option.{Option, some, none}
@@ -11,6 +12,7 @@ use Rattle.minute.specs.declared.Minute.{Minute}
 use Rattle.tool06.specs.declared.class.Class.{Class}
 use Rattle.tool06.specs.declared.class.Class.TheVariants.{Open, Low, Tall}
 use Rattle.tool06.specs.declared.figures.Figures.{Figures}
+use Rattle.account.specs.declared.Account.{Account}
 use Rattle.by_month.specs.declared.Row.{Row}
 
 -- R58: what comes back: a number, 0 where nothing is refused, and the values beside it, if there are any
@@ -36,6 +38,11 @@ abbrev pub said_of_minute : Result Minute Refusal → Said Minute
 said_of_minute (Ok n) = given n
 said_of_minute (Err r) = refused r
 
+-- R53, R58: opening an account
+abbrev pub said_of_opened : Result Account Refusal → Said Account
+said_of_opened (Ok a) = given a
+said_of_opened (Err r) = refused r
+
 -- R56, R58: adding a minute
 abbrev pub said_of_judged : Result Figures Refusal → Said Figures
 said_of_judged (Ok f) = given f
@@ -59,8 +66,8 @@ said_of_verdict v (Err r) = refused r
 -- R58, R62: "as day, minute of the day .. and number, or none"; "else 1, without a place"
 abbrev pub said_of_checked : Result Unit Refused → Said (ℕ × ℕ)
 said_of_checked (Ok tt) = record { number = 0; values = none }
-said_of_checked (Err-Run r) = record { number = number_of r; values = none }
-said_of_checked (Err-At day minute r) = record { number = number_of r; values = some (day, minute) }
+said_of_checked (Err (Run r)) = record { number = number_of r; values = none }
+said_of_checked (Err (At day minute r)) = record { number = number_of r; values = some (day, minute) }
 
 -- R18, R58: the word for a class, which refuses nothing
 abbrev pub said_of_class : Class → Said String
