@@ -1,6 +1,6 @@
 -- Text put into a buffer, piece after piece.
 use Prim.Native.Nat.{ℕ, ◌+◌, ◌≤◌}
-use mathlib.Core.Path.{◌≡◌, sym, ap, ◌∙◌}
+use mathlib.Core.Path.{◌≡◌, refl, sym, ap, ◌∙◌}
 use mathlib.Core.List.{List, [], ◌∷◌, ◌++◌}
 use native.Mathlib.Nat.{add-zero}
 use native.Mathlib.Omega.{arith}
@@ -18,14 +18,6 @@ put-put b k [] ys = rw add-zero
 put-put b k (x ∷ xs) ys =
     let e : k + length (x ∷ xs) ≡ k + 1 + length xs = omega arith in
     ap (λ (j : ℕ). put (put (set b k x) (k + 1) xs) j ys) e ∙ put-put (set b k x) (k + 1) xs ys
-
--- a piece, and one more behind it
-pub onward : {b b' b'' xs ys : List ℕ} {at next end : ℕ} → PutFrom b at xs b' next → PutFrom b' next ys b'' end → PutFrom b at (xs ++ ys) b'' end
-onward {b = b} {xs = xs} {ys = ys} {at = at} p q =
-    record {
-      holds = q.holds ∙ rw (p.holds, p.place) (put-put b at xs ys);
-      place = rw (length-append xs ys) (omega (arith, p.place, q.place));
-    }
 
 -- a part of the buffer, written over as a whole
 pub put_part : (b xs : List ℕ) (at k : ℕ) → at + k ≤ length b → length xs ≡ k → put_mid at k b xs ≡ put b at xs
@@ -50,3 +42,7 @@ onwards {a = a} {xs = xs} {ys = ys} p q =
 -- what is put on a page stands in its buffer
 pub from_page : {a b : Page} {xs : List ℕ} → Puts a xs b → PutFrom a.buffer.now a.at xs b.buffer.now b.at
 from_page p = record { holds = p.holds; place = p.place }
+
+pub nothing : (a : Page) → Puts a [] a
+unfolding put
+nothing a = record { holds = refl; place = omega arith; long = refl; same_reference = refl }
