@@ -1,8 +1,7 @@
 // The text that a program ends with: the total and the year, or the one line of a refused site.
 #![tactic(auto)]
 
-ghost use Rattle.std.specs.Prelude.{◌≡◌, ◌+◌, ◌≤◌, length};
-ghost use Rattle.exact.specs.Bytes.{put};
+ghost use Rattle.std.specs.Prelude.{◌+◌, ◌≤◌, length};
 ghost use Rattle.account.specs.Kept.{Kept};
 ghost use Rattle.text.specs.Places.{Puts};
 ghost use Rattle.lines.specs.Lines.{site_line};
@@ -22,12 +21,10 @@ pub fn put_ending(page: &mut Page, account: Account)
     sheet::put_year(page, account);
 }
 
-// Answers how many bytes it put.
-pub fn put_refused_site(out: &mut [u8], refusal: Refusal) -> usize
-    requires { length out.old ≡ 65536 }
-    ensures { (result ≡ length (site_line refusal)) × (out.new ≡ put out.old 0 (site_line refusal)) }
+pub fn put_refused_site(page: &mut Page, refusal: Refusal)
+    requires { page.old.at + 163 ≤ length page.old.buffer.now }
+    ensures put_from { Puts page.old (site_line refusal) page.new }
+    ensures within { page.new.at ≤ page.old.at + 163 }
 {
-    let mut page = Page { buffer: out, at: 0 };
-    lines::put_site(&mut page, refusal);
-    page.at
+    lines::put_site(page, refusal);
 }

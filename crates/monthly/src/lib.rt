@@ -1,8 +1,7 @@
 // The text of the program `months`: a line for each month, the refusal that ended the reading, and the total and the year.
 #![tactic(auto)]
 
-ghost use Rattle.std.specs.Prelude.{◌≡◌, ◌+◌, ◌≤◌, length};
-ghost use Rattle.exact.specs.Bytes.{put};
+ghost use Rattle.std.specs.Prelude.{◌+◌, ◌≤◌, length};
 ghost use Rattle.account.specs.Kept.{Kept};
 ghost use Rattle.text.specs.Places.{Puts};
 ghost use Rattle.room.specs.Places.{PutsLine};
@@ -36,16 +35,14 @@ fn put_last(page: &mut Page, expected: u32, verdict: Result<(), Refusal>)
     }
 }
 
-// All that is printed of an account and of how the reading ended. Answers how many bytes it put.
-pub fn put_sheet(out: &mut [u8], account: Account, verdict: Result<(), Refusal>) -> usize
+// All that is printed of an account and of how the reading ended.
+pub fn put_sheet(page: &mut Page, account: Account, verdict: Result<(), Refusal>)
     requires kept { Kept account }
-    requires out_len { length out.old ≡ 65536 }
-    ensures value { (result ≡ length (month_sheet account verdict)) × (out.new ≡ put out.old 0 (month_sheet account verdict)) }
-    ensures within { result ≤ 65536 }
+    requires at_in_bounds { page.old.at + 2445 ≤ length page.old.buffer.now }
+    ensures put_from { Puts page.old (month_sheet account verdict) page.new }
+    ensures within { page.new.at ≤ page.old.at + 2445 }
 {
-    let mut page = Page { buffer: out, at: 0 };
-    put_months(&mut page, account);
-    put_last(&mut page, account.minutes(), verdict);
-    ending::put_ending(&mut page, account);
-    page.at
+    put_months(page, account);
+    put_last(page, account.minutes(), verdict);
+    ending::put_ending(page, account);
 }

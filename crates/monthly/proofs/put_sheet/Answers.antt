@@ -1,9 +1,5 @@
 use Prim.Native.Nat.{◌+◌, ◌≤◌}
-use mathlib.Core.Path.{◌≡◌}
 use native.Mathlib.Omega.{arith}
-use Rattle.std.proofs.Common.{rules}
-use lib.ListN.{length}
-use Rattle.exact.specs.Bytes.{put}
 use Rattle.text.specs.Places.{Puts}
 use Rattle.text.proofs.Putting.{onwards}
 use Rattle.room.proofs.Placing.{whole}
@@ -18,22 +14,15 @@ module _ (p : After-put_last) where
   last : Puts p.put_months.new.page (last_line p.args.account.sums.minutes p.args.verdict) p.put_last.new.page
   last = whole (omega arith) (rw p.minutes.ensures at p.put_last.ensures)
 
-  few : p.put_last.new.page.at ≤ 2119
+  few : p.put_last.new.page.at ≤ p.args.page.now.at + 2119
   few = omega (arith, last.place, last_within p.args.account.sums.minutes p.args.verdict)
 
 pub put_ending-requires-clause-at_in_bounds : goal.put_ending-requires-clause-at_in_bounds
 put_ending-requires-clause-at_in_bounds c =
     let p = (goal.at.put_ending-requires-clause-at_in_bounds c).After-put_last in omega (arith, few p, (last p).long)
 
-pub returns-clause-value : goal.returns-clause-value
+pub returns : goal.returns
 unfolding month_sheet
-returns-clause-value c =
-    let p = (goal.at.returns-clause-value c).After-put_last in
-    let all = onwards (onwards c.put_months.ensures.put_from (last p)) c.put_ending.ensures.put_from in
-    let holds : c.put_ending.new.page.buffer.now ≡ put c.args.out.now 0 (month_sheet c.args.account c.args.verdict) = all.holds in
-    let place : c.put_ending.new.page.at ≡ 0 + length (month_sheet c.args.account c.args.verdict) = all.place in
-    (omega arith, search (rules, holds))
-
-pub returns-clause-within : goal.returns-clause-within
-returns-clause-within c =
-    let p = (goal.at.returns-clause-within c).After-put_last in omega (arith, few p)
+returns c =
+    let p = (goal.at.returns c).After-put_last in
+    record { put_from = onwards (onwards c.put_months.ensures.put_from (last p)) c.put_ending.ensures.put_from; within = omega (arith, few p) }
