@@ -9,26 +9,26 @@ use desk_account::turn::no_account;
 use desk_account::{adding, opening};
 use desk_records::of_records;
 use forms::call::{Call, Form, Question};
-use forms::take::{Misfit, Values, take};
+use forms::take::{Given, Misfit, take};
 
-fn answer_to(question: Question, account: Account, values: Values, bytes: &[u8], out: &mut Answers)
+fn answer_to(question: Question, account: Account, given: &Given, out: &mut Answers)
     requires { Kept account }
 {
     match question {
-        Question::Check => checking::check(account, values.bytes(0, bytes, 0), out),
+        Question::Check => checking::check(account, given.bytes(0), out),
         Question::Total => sheet::put_total(&mut out.page, account),
-        Question::Month => desk_year::month(account, values.number(0), out),
+        Question::Month => desk_year::month(account, given.number(0), out),
         Question::Counts => desk_year::counts(account, out),
         Question::Close => desk_year::close(account, out),
         Question::Chart => desk_year::chart(account, out),
     }
 }
 
-fn ask(question: Question, desk: Option<Account>, values: Values, bytes: &[u8], out: &mut Answers)
+fn ask(question: Question, desk: Option<Account>, given: &Given, out: &mut Answers)
     requires { Ready desk }
 {
     match desk {
-        Some(account) => answer_to(question, account, values, bytes, out),
+        Some(account) => answer_to(question, account, given, out),
         None => no_account(out),
     }
 }
@@ -44,20 +44,17 @@ pub(crate) fn act(
     requires { Ready desk.old }
     ensures { Ready desk.new }
 {
-    let (values, rest) = take(form.words, line, bytes)?;
+    let (mut given, rest) = take(form.words, line, bytes)?;
     if form.call != Call::Open && !rest.is_empty() {
         return Err(Misfit::Form);
     }
     match form.call {
-        Call::Open => opening::open(desk, values.bytes(0, bytes, 0), rest, out)?,
-        Call::Add => adding::add(desk, values.bytes(0, bytes, 0), out),
-        Call::Fill => {
-            let size = (values.number::<u32>(1) as usize).min(bytes.len());
-            adding::fill(desk, values.number(0), &mut bytes[..size], out);
-        }
-        Call::Single => desk_single::single(values, bytes, out),
-        Call::Record(call) => of_records(call, values, bytes, out),
-        Call::Ask(question) => ask(question, *desk, values, bytes, out),
+        Call::Open => opening::open(desk, given.bytes(0), rest, out)?,
+        Call::Add => adding::add(desk, given.bytes(0), out),
+        Call::Fill => adding::fill(desk, given.number(0), given.bytes_mut(1), out),
+        Call::Single => desk_single::single(&given, out),
+        Call::Record(call) => of_records(call, &given, out),
+        Call::Ask(question) => ask(question, *desk, &given, out),
     }
     Ok(())
 }

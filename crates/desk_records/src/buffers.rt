@@ -1,6 +1,6 @@
 // The calls that write into a lent buffer: `write-site` and `write-minute`.
 use answers::Answers;
-use forms::take::Values;
+use forms::take::Given;
 use minute::{Gas, Minute, Readings};
 use refusals::Refusal;
 use site::{Limits, Site};
@@ -26,65 +26,65 @@ pub fn put_room(out: &mut Answers, room: &[u8]) {
     out.text(b"\n");
 }
 
-fn site_of(values: Values) -> Site {
+fn site_of(given: &Given) -> Site {
     let temperature = Limits {
-        lowest: values.signed(5),
-        highest: values.signed(6),
+        lowest: given.signed(5),
+        highest: given.signed(6),
     };
     let flow = Limits {
-        lowest: values.number(7),
-        highest: values.number(8),
+        lowest: given.number(7),
+        highest: given.number(8),
     };
     Site {
-        method: values.number(0),
-        year: values.number(1),
-        gwp: values.number(2),
-        height: values.number(3),
-        diameter: values.number(4),
+        method: given.number(0),
+        year: given.number(1),
+        gwp: given.number(2),
+        height: given.number(3),
+        diameter: given.number(4),
         temperature,
         flow,
-        days: values.number(9),
+        days: given.number(9),
     }
 }
 
-pub(crate) fn write_site(values: Values, out: &mut Answers) {
+pub(crate) fn write_site(given: &Given, out: &mut Answers) {
     let mut space = [BEFORE; LARGEST];
-    let room = &mut space[..values.number::<u16>(10) as usize];
-    put_verdict(out, writing::write_site(site_of(values), room));
+    let room = &mut space[..given.number::<u16>(10) as usize];
+    put_verdict(out, writing::write_site(site_of(given), room));
     put_room(out, room);
 }
 
-fn gas_of(values: Values) -> Gas {
+fn gas_of(given: &Given) -> Gas {
     Gas {
-        ch4: values.number(4),
-        co: values.number(5),
-        co2: values.number(6),
-        o2: values.number(7),
-        h2: values.number(8),
-        h2s: values.number(9),
-        nh3: values.number(10),
-        n2: values.number(11),
+        ch4: given.number(4),
+        co: given.number(5),
+        co2: given.number(6),
+        o2: given.number(7),
+        h2: given.number(8),
+        h2s: given.number(9),
+        nh3: given.number(10),
+        n2: given.number(11),
     }
 }
 
-fn minute_of(values: Values) -> Minute {
+fn minute_of(given: &Given) -> Minute {
     let exhaust = Readings {
-        oxygen: values.number(12),
-        methane: values.number(13),
+        oxygen: given.number(12),
+        methane: given.number(13),
     };
     Minute {
-        number: values.number(0),
-        flags: values.number(1),
-        temperature: values.signed(2),
-        litres: values.number(3),
-        gas: gas_of(values),
+        number: given.number(0),
+        flags: given.number(1),
+        temperature: given.signed(2),
+        litres: given.number(3),
+        gas: gas_of(given),
         exhaust,
     }
 }
 
-pub(crate) fn write_minute(values: Values, out: &mut Answers) {
+pub(crate) fn write_minute(given: &Given, out: &mut Answers) {
     let mut space = [BEFORE; LARGEST];
-    let room = &mut space[..values.number::<u16>(14) as usize];
-    put_verdict(out, writing::write_minute(minute_of(values), room));
+    let room = &mut space[..given.number::<u16>(14) as usize];
+    put_verdict(out, writing::write_minute(minute_of(given), room));
     put_room(out, room);
 }

@@ -7,16 +7,16 @@ mod runs;
 
 use answers::Answers;
 use forms::call::RecordCall;
-use forms::take::Values;
+use forms::take::Given;
 
 // What such a call answers; the bytes have the record that its line spells.
-pub fn of_records(call: RecordCall, values: Values, bytes: &[u8], out: &mut Answers) {
+pub fn of_records(call: RecordCall, given: &Given, out: &mut Answers) {
     match call {
-        RecordCall::Site => fields::site(values.bytes(0, bytes, 0), out),
-        RecordCall::Minute => fields::minute(values.bytes(0, bytes, 0), out),
-        RecordCall::Class => fields::class(values.bytes(0, bytes, 0), out),
-        RecordCall::WriteSite => buffers::write_site(values, out),
-        RecordCall::WriteMinute => buffers::write_minute(values, out),
-        RecordCall::Part => runs::part(values.number(0), values.bytes(1, bytes, 0), out),
+        RecordCall::Site => fields::site(given.bytes(0), out),
+        RecordCall::Minute => fields::minute(given.bytes(0), out),
+        RecordCall::Class => fields::class(given.bytes(0), out),
+        RecordCall::WriteSite => buffers::write_site(given, out),
+        RecordCall::WriteMinute => buffers::write_minute(given, out),
+        RecordCall::Part => runs::part(given.number(0), given.bytes(1), out),
     }
 }

@@ -3,16 +3,16 @@
 
 use answers::Answers;
 use desk_records::buffers::{BEFORE, LARGEST, put_room};
-use forms::take::{SECOND_AT, Values};
+use forms::take::Given;
 use std::fmt::Write;
 
 // The number that the C call gives, and what it leaves in the answer buffer.
-pub fn single(values: Values, bytes: &[u8], out: &mut Answers) {
+pub fn single(given: &Given, out: &mut Answers) {
     let mut space = [BEFORE; LARGEST];
-    let site = values.bytes(0, bytes, 0);
-    let minute = values.bytes(1, bytes, SECOND_AT);
-    let room = &mut space[..values.number::<u16>(3) as usize];
-    let given = host::flare_minute(site, minute, values.number(2), room);
-    let _ = write!(out, "{given}");
+    let site = given.bytes(0);
+    let minute = given.second(1);
+    let room = &mut space[..given.number::<u16>(3) as usize];
+    let number = host::flare_minute(site, minute, given.number(2), room);
+    let _ = write!(out, "{number}");
     put_room(out, room);
 }

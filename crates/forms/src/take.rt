@@ -3,7 +3,8 @@ ghost use Rattle.std.specs.Prelude.{◌≤◌, length, IfOk};
 
 use crate::word::{Kind, Word, next_word};
 
-pub const SECOND_AT: usize = 160_000;
+// Where the bytes of a second record stand.
+const SECOND_AT: usize = 160_000;
 
 // How the words are not as the call's form has them: one is missing or left over, or one is not of its kind.
 #[derive(Clone, Copy, PartialEq, Eq, Debug)]
@@ -12,27 +13,44 @@ pub enum Misfit {
     Wrong(Word),
 }
 
-// A number for each word of a call: numbers as they are, in two's complement where they have a sign, and for bytes how many there are. No call has more words.
-#[derive(Clone, Copy)]
-pub struct Values([u32; 15]);
+// What a line gives to its call: a number for each of its words, in two's complement where it has a sign, and for bytes how many there are; and the bytes that they spell. No call has more words.
+#[derive(Drop)]
+pub struct Given<'b> {
+    numbers: [u32; 15],
+    bytes: &'b mut [u8],
+}
 
-impl Values {
+impl Given<'_> {
     // The number of the word at a place, 0 where it is none of this type.
     pub fn number<N: TryFrom<u32> + Default + Drop>(&self, place: usize) -> N
     where
         <N as TryFrom<u32>>::Error: Drop,
     {
-        N::try_from(self.0.get(place).copied().unwrap_or(0)).unwrap_or_default()
+        N::try_from(self.numbers.get(place).copied().unwrap_or(0)).unwrap_or_default()
     }
 
     pub fn signed(&self, place: usize) -> i16 {
         self.number::<u16>(place).cast_signed()
     }
 
-    // The bytes of the word at a place, which stand from there on.
-    pub fn bytes<'b>(&self, place: usize, bytes: &'b [u8], from: usize) -> &'b [u8] {
-        let count = self.number::<u32>(place) as usize;
-        bytes.get(from..from.saturating_add(count)).unwrap_or(&[])
+    fn count(&self, place: usize) -> usize {
+        self.number::<u32>(place) as usize
+    }
+
+    // The bytes of the word at a place.
+    pub fn bytes(&self, place: usize) -> &[u8] {
+        self.bytes.get(..self.count(place)).unwrap_or(&[])
+    }
+
+    pub fn bytes_mut(&mut self, place: usize) -> &mut [u8] {
+        let count = self.count(place).min(self.bytes.len());
+        &mut self.bytes[..count]
+    }
+
+    // The bytes of the word at a place, where they are a second record's.
+    pub fn second(&self, place: usize) -> &[u8] {
+        let end = SECOND_AT.saturating_add(self.count(place));
+        self.bytes.get(SECOND_AT..end).unwrap_or(&[])
     }
 }
 
@@ -45,7 +63,7 @@ fn count_of(word: &[u8], bytes: &mut [u8], from: usize) -> Option<u32> {
     }
 }
 
-fn value_of(word: &[u8], kind: Kind, bytes: &mut [u8]) -> Option<u32> {
+fn number_of(word: &[u8], kind: Kind, bytes: &mut [u8]) -> Option<u32> {
     match kind {
         Kind::Byte => words::number_in(word, u8::MAX as u32),
         Kind::Word => words::number_in(word, u16::MAX as u32),
@@ -57,19 +75,19 @@ fn value_of(word: &[u8], kind: Kind, bytes: &mut [u8]) -> Option<u32> {
 }
 
 // Takes these words in turn from what is left of a line behind its name, and answers what is left behind them.
-pub fn take<'l>(
+pub fn take<'l, 'b>(
     words: &[Word],
     line: &'l [u8],
-    bytes: &mut [u8],
-) -> Result<(Values, &'l [u8]), Misfit>
+    bytes: &'b mut [u8],
+) -> Result<(Given<'b>, &'l [u8]), Misfit>
     ensures { IfOk result (λ taken. length taken.1.now ≤ length line.now) }
 {
-    let mut values = [0; 15];
+    let mut numbers = [0; 15];
     let mut rest = line;
-    for (value, word) in values.iter_mut().zip(words) {
+    for (number, word) in numbers.iter_mut().zip(words) {
         let (text, left) = next_word(rest).ok_or(Misfit::Form)?;
-        *value = value_of(text, word.1, bytes).ok_or(Misfit::Wrong(*word))?;
+        *number = number_of(text, word.1, bytes).ok_or(Misfit::Wrong(*word))?;
         rest = left;
     }
-    Ok((Values(values), rest))
+    Ok((Given { numbers, bytes }, rest))
 }
