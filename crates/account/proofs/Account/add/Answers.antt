@@ -16,10 +16,8 @@ answered v m pos =
     let a = v.args in
     sym (v.answer.ensures m pos ∙ ap (λ (d : Due). answer m d a.bytes.now) v.due.ensures)
 
-pub answer-requires : goal.answer-requires
-answer-requires c =
-    let k = c.requires in
-    record { examined = rw c.due.ensures (site_examined k); kept_list = rw c.due.ensures k.list_kept }
+pub answer-requires-clause-examined : goal.answer-requires-clause-examined
+answer-requires-clause-examined c = rw c.due.ensures (site_examined c.requires)
 
 pub take-requires : goal.take-requires
 take-requires c =
