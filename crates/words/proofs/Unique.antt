@@ -5,14 +5,10 @@ use Rattle.exact.specs.One.{OneResult, OneOutcome}
 use Rattle.words.proofs.hex.put_bytes.Reads as put-bytes
 use Rattle.words.proofs.number.number_in.Reads as number_in
 use Rattle.words.proofs.number.signed_in.Reads as signed-in
-use Rattle.words.proofs.place.end_of.Reads as end-of
 use Rattle.words.proofs.place.end_of_word.Reads as end-of-word
 
 pub end_of_word_one : (κs : _) (a : _) → OneResult (end-of-word.Learnt κs a)
 end_of_word_one κs a x y e f p q = p.0 ∙ sym q.0
-
-pub end_of_one : (κs : _) (a : _) → OneResult (end-of.Learnt κs a)
-end_of_one κs a x y e f p q = p.0 ∙ sym q.0
 
 pub number_in_one : (κs : _) (a : _) → OneResult (number_in.Learnt κs a)
 number_in_one κs a x y e f p q = p ∙ sym q

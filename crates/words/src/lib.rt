@@ -7,4 +7,4 @@ mod place;
 
 pub use hex::put_bytes;
 pub use number::{number_in, signed_in};
-pub use place::{end_of, end_of_word};
+pub use place::end_of_word;
