@@ -5,6 +5,7 @@ use crate::answer::answer;
 use account::Account;
 use answers::Answers;
 use std::io::Read;
+use text::Page;
 
 // Answers wait on their page until more do than this.
 const FULL: usize = 65_536;
@@ -15,9 +16,9 @@ pub(crate) struct Failed;
 
 // How much of a line was heard that has no end yet; none once that is more than its buffer has.
 #[derive(Drop)]
-pub(crate) struct Line<'a> {
-    pub buffer: &'a mut [u8],
-    pub heard: Option<usize>,
+struct Line<'a> {
+    buffer: &'a mut [u8],
+    heard: Option<usize>,
 }
 
 impl Line<'_> {
@@ -40,6 +41,15 @@ impl Line<'_> {
     }
 }
 
+// The desk, the line that it hears, room for the bytes that a line spells, and the answers that wait.
+#[derive(Drop)]
+pub(crate) struct Talk<'a> {
+    pub desk: Option<Account>,
+    line: Line<'a>,
+    bytes: &'a mut [u8],
+    out: Answers<'a>,
+}
+
 // Waits for more of the input: how many bytes came, none at its end.
 pub(crate) fn read_more(
     rt: &impl Eprint,
@@ -56,7 +66,7 @@ pub(crate) fn read_more(
 }
 
 // Prints the answers, or says that it could not.
-pub(crate) fn print(rt: &(impl Print + Eprint), out: &mut Answers) -> Result<(), Failed> {
+fn print(rt: &(impl Print + Eprint), out: &mut Answers) -> Result<(), Failed> {
     let at = out.page.at;
     out.page.at = 0;
     let Some(waiting) = out.page.buffer.get(..at) else {
@@ -72,61 +82,72 @@ pub(crate) fn print(rt: &(impl Print + Eprint), out: &mut Answers) -> Result<(),
     }
 }
 
-// A line's end: it is answered, the answers are printed when there are many, and the next begins.
-fn end_line(
-    rt: &(impl Print + Eprint),
-    desk: &mut Option<Account>,
-    line: &mut Line,
-    bytes: &mut [u8],
-    out: &mut Answers,
-) -> Result<(), Failed>
-    requires { Ready desk.old }
-    ensures { Ready desk.new }
-{
-    answer(desk, line.text(), bytes, out);
-    line.heard = Some(0);
-    if FULL < out.page.at {
-        print(rt, out)?;
+impl<'a> Talk<'a> {
+    // No account is open, and nothing was heard.
+    pub fn new(line: &'a mut [u8], bytes: &'a mut [u8], answers: &'a mut [u8]) -> Talk<'a>
+        ensures { Ready result.desk }
+    {
+        let line = Line {
+            buffer: line,
+            heard: Some(0),
+        };
+        let page = Page {
+            buffer: answers,
+            at: 0,
+        };
+        let out = Answers { page };
+        Talk {
+            desk: None,
+            line,
+            bytes,
+            out,
+        }
     }
-    Ok(())
-}
 
-// Answers the lines that end in this chunk, and keeps the beginning of the next. The first of them may have begun before.
-pub(crate) fn hear(
-    rt: &(impl Print + Eprint),
-    desk: &mut Option<Account>,
-    chunk: &[u8],
-    line: &mut Line,
-    bytes: &mut [u8],
-    out: &mut Answers,
-) -> Result<(), Failed>
-    requires { Ready desk.old }
-    ensures { Ready desk.new }
-{
-    let mut rest = chunk;
-    while let Some(end) = rest.iter().position(|byte| *byte == b'\n') {
-        line.keep(&rest[..end]);
-        end_line(rt, desk, line, bytes, out)?;
-        rest = &rest[end + 1..];
+    fn answer(&mut self)
+        requires { Ready self.old.desk }
+        ensures { Ready self.new.desk }
+    {
+        answer(&mut self.desk, self.line.text(), self.bytes, &mut self.out);
     }
-    line.keep(rest);
-    Ok(())
-}
 
-// The end of the input: answers a last line that has no end.
-pub(crate) fn end(
-    rt: &(impl Print + Eprint),
-    desk: &mut Option<Account>,
-    line: &Line,
-    bytes: &mut [u8],
-    out: &mut Answers,
-) -> Result<(), Failed>
-    requires { Ready desk.old }
-    ensures { Ready desk.new }
-{
-    if line.heard == Some(0) {
-        return Ok(());
+    // A line's end: it is answered, the answers are printed when there are many, and the next begins.
+    fn end_line(&mut self, rt: &(impl Print + Eprint)) -> Result<(), Failed>
+        requires { Ready self.old.desk }
+        ensures { Ready self.new.desk }
+    {
+        self.answer();
+        self.line.heard = Some(0);
+        if FULL < self.out.page.at {
+            print(rt, &mut self.out)?;
+        }
+        Ok(())
     }
-    answer(desk, line.text(), bytes, out);
-    print(rt, out)
+
+    // Answers the lines that end in this chunk, and keeps the beginning of the next. The first of them may have begun before.
+    pub fn hear(&mut self, rt: &(impl Print + Eprint), chunk: &[u8]) -> Result<(), Failed>
+        requires { Ready self.old.desk }
+        ensures { Ready self.new.desk }
+    {
+        let mut rest = chunk;
+        while let Some(end) = rest.iter().position(|byte| *byte == b'\n') {
+            self.line.keep(&rest[..end]);
+            self.end_line(rt)?;
+            rest = &rest[end + 1..];
+        }
+        self.line.keep(rest);
+        print(rt, &mut self.out)
+    }
+
+    // The end of the input: answers a last line that has no end.
+    pub fn end(&mut self, rt: &(impl Print + Eprint)) -> Result<(), Failed>
+        requires { Ready self.old.desk }
+        ensures { Ready self.new.desk }
+    {
+        if self.line.heard == Some(0) {
+            return Ok(());
+        }
+        self.answer();
+        print(rt, &mut self.out)
+    }
 }

@@ -8,29 +8,24 @@ mod hearing;
 
 ghost use Rattle.desk_account.specs.Desk.{Ready};
 
-use answers::Answers;
-use hearing::{Failed, Line, end, hear, print, read_more};
+use hearing::{Failed, Talk, read_more};
 use std::io::Read;
-use text::Page;
 
 // Hears the input to its end, and prints the answers before it waits for more.
-fn talk(
+fn hear_all(
     rt: &(impl Print + Eprint),
     input: &mut impl Read,
     chunk: &mut [u8],
-    line: &mut Line,
-    bytes: &mut [u8],
-    out: &mut Answers,
-) -> Result<(), Failed> {
-    let mut desk = None;
+    talk: &mut Talk,
+) -> Result<(), Failed>
+    requires { Ready talk.old.desk }
+{
     for _ in 0..u64::MAX {
         let count = read_more(rt, input, chunk)?;
         if count == 0 {
-            return end(rt, &mut desk, line, bytes, out);
+            return talk.end(rt);
         }
-        let came = chunk.get(..count).unwrap_or(&[]);
-        hear(rt, &mut desk, came, line, bytes, out)?;
-        print(rt, out)?;
+        talk.hear(rt, chunk.get(..count).unwrap_or(&[]))?;
     }
     Err(Failed)
 }
@@ -44,25 +39,9 @@ fn main(rt: HostRuntime) {
     let mut bytes = [0; LINE];
     // Room for the longest answer behind those that wait.
     let mut waiting = [0; 400_000];
-    let mut line = Line {
-        buffer: &mut heard,
-        heard: Some(0),
-    };
-    let mut out = Answers {
-        page: Page {
-            buffer: &mut waiting,
-            at: 0,
-        },
-    };
-    let talked = talk(
-        &rt,
-        &mut rt.stdin(),
-        &mut chunk,
-        &mut line,
-        &mut bytes,
-        &mut out,
-    );
+    let mut talk = Talk::new(&mut heard, &mut bytes, &mut waiting);
+    let heard_all = hear_all(&rt, &mut rt.stdin(), &mut chunk, &mut talk);
     if launcher::asked(&rt, b"--status") {
-        launcher::tell(&rt, if talked.is_ok() { 0 } else { 2 });
+        launcher::tell(&rt, if heard_all.is_ok() { 0 } else { 2 });
     }
 }

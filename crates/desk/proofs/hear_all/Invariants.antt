@@ -1,5 +1,5 @@
 use Rattle.desk_account.specs.Desk.{Ready}
-use Rattle.desk.proofs.talk.Given as goal
+use Rattle.desk.proofs.hear_all.Given as goal
 
 abbrev pub invariant-loop : goal.invariant-loop
-invariant-loop g l = Ready l.desk
+invariant-loop g l = Ready l.talk.desk
