@@ -41,7 +41,7 @@ impl Line<'_> {
     }
 }
 
-// The desk, the line that it hears, room for the bytes that a line spells, and the answers that wait.
+// The desk, the line that it hears, room for the bytes that a line spells, and the answers that wait. That the desk is `Ready` stands in clauses: a ghost field beside a lent buffer gets no generated proof.
 #[derive(Drop)]
 pub(crate) struct Talk<'a> {
     pub desk: Option<Account>,
