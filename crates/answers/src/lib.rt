@@ -27,7 +27,7 @@ impl Answers<'_> {
 
     pub fn text(&mut self, words: &[u8])
         ensures room { self.old.page.at + length words.now ≤ length self.old.page.buffer.now → Puts self.old.page words.now self.new.page }
-        ensures no_room { length self.old.page.buffer.now < self.old.page.at + length words.now → (self.new.page.buffer.now ≡ self.old.page.buffer.now) × (self.new.page.at ≡ self.old.page.at) }
+        ensures no_room { length self.old.page.buffer.now < self.old.page.at + length words.now → (self.new.page.buffer.now ≡ self.old.page.buffer.now) × (self.new.page.at ≡ self.old.page.at) × (self.new.page.buffer.ghost_name ≡ self.old.page.buffer.ghost_name) }
     {
         if self.has_room(words.len()) {
             self.page.text(words);

@@ -49,7 +49,7 @@ pub(crate) fn act(
         return Err(Misfit::Form);
     }
     match form.call {
-        Call::Open => opening::open(desk, given.bytes(0), rest, out)?,
+        Call::Open => opening::open(desk, form, given.bytes(0), rest, out),
         Call::Add => adding::add(desk, given.bytes(0), out),
         Call::Fill => adding::fill(desk, given.number(0), given.bytes_mut(1), out),
         Call::Single => desk_single::single(&given, out),

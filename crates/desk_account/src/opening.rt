@@ -3,7 +3,8 @@ ghost use Rattle.desk_account.specs.Desk.{Ready};
 
 use account::Account;
 use answers::Answers;
-use forms::call::DAY;
+use forms::call::{DAY, Form};
+use forms::expected;
 use forms::take::Misfit;
 use forms::word::next_word;
 use site::Site;
@@ -66,20 +67,23 @@ fn with_site(desk: &mut Option<Account>, site: Site, days: &[i16], out: &mut Ans
     }
 }
 
-// Opens an account of the site in this record, with the list that the rest of the line has; a refusal leaves the one that is open.
-pub fn open(
-    desk: &mut Option<Account>,
-    record: &[u8],
-    rest: &[u8],
-    out: &mut Answers,
-) -> Result<(), Misfit>
+fn with_list(desk: &mut Option<Account>, record: &[u8], days: &[i16], out: &mut Answers)
     requires { Ready desk.old }
     ensures { Ready desk.new }
 {
-    let days = list_in(rest)?;
     match reading::read_site(record) {
-        Ok(site) => with_site(desk, site, days.listed(), out),
+        Ok(site) => with_site(desk, site, days, out),
         Err(refusal) => out.refused(refusal),
     }
-    Ok(())
+}
+
+// Opens an account of the site in this record, with the list that the rest of the line has; a refusal leaves the one that is open.
+pub fn open(desk: &mut Option<Account>, form: Form, record: &[u8], rest: &[u8], out: &mut Answers)
+    requires { Ready desk.old }
+    ensures { Ready desk.new }
+{
+    match list_in(rest) {
+        Ok(days) => with_list(desk, record, days.listed(), out),
+        Err(misfit) => expected::form(out, form, misfit),
+    }
 }

@@ -13,7 +13,7 @@ pub enum Misfit {
     Wrong(Word),
 }
 
-// What a line gives to its call: a number for each of its words, in two's complement where it has a sign, and for bytes how many there are; and the bytes that they spell. No call has more words.
+// What a line gives to its call: a number for each of its words, in two's complement where it has a sign, and for bytes how many there are; and the bytes that they spell. No call has more words; of more, the first so many are taken.
 #[derive(Drop)]
 pub struct Given<'b> {
     numbers: [u32; 15],

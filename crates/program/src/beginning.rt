@@ -1,5 +1,5 @@
 // The input's beginning: the site, and an account of it.
-ghost use Rattle.std.specs.Prelude.{◌≡◌, ◌+◌, ◌≤◌, [], length, IfOk, IsOk};
+ghost use Rattle.std.specs.Prelude.{ℕ, ◌≡◌, ◌+◌, ◌≤◌, [], length, take, IfOk};
 ghost use Rattle.account.specs.Kept.{Kept};
 ghost use Rattle.account.specs.Opening.{opened};
 ghost use Rattle.lines.specs.Lines.{site_line};
@@ -74,7 +74,8 @@ fn receive(
     out: &mut [u8; OUT],
 ) -> Result<Account, Stopped>
     requires { IfOk read (λ bytes. bytes ≤ length buffer.now) }
-    ensures { IfOk result (λ account. IsOk read × Kept account) }
+    ensures of_site { IfOk result (λ account. (n : ℕ) × (read ≡ Ok n) × (site : Site) × (read_site (take n buffer.now) ≡ Ok site) × (opened site [] ≡ Ok account)) }
+    ensures kept { IfOk result (λ account. Kept account) }
 {
     let n = read.map_err(|_| unread(rt))?;
     let bytes = &buffer[..n];

@@ -7,7 +7,8 @@ use native.Mathlib.Decide.{dec_lt}
 use native.Mathlib.Omega.{arith}
 use borrow.Author.Tests.{lt-ltb, le-ltb}
 use lib.ListN.{length, set, length-append}
-use Rattle.text.specs.Text.{digit, digits, decimal, last}
+use Rattle.text.specs.Text.{digit, digits, decimal}
+use Rattle.text.specs.scaffold.Digits.{last}
 
 one_digit : (k n : ℕ) → n < 10 → digits (suc k) n ≡ digit n ∷ []
 unfolding digits

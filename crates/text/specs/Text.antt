@@ -20,8 +20,3 @@ digits (suc k) n = cond (ltb n 10) (digit n ∷ []) (digits k (n / 10) ++ (digit
 -- R74: n in decimal: no number of 64 bits has more than 20 digits
 unfoldable pub decimal : ℕ → List ℕ
 decimal n = digits 20 n
-
--- R74: the last k digits of n
-unfoldable pub last : ℕ → ℕ → List ℕ
-last zero n = []
-last (suc k) n = last k (n / 10) ++ (digit (n % 10) ∷ [])

@@ -3,7 +3,8 @@
 
 ghost use Rattle.std.specs.Prelude.{◌≡◌, ◌+◌, ◌≤◌, length};
 ghost use Rattle.text.specs.Places.{Puts};
-ghost use Rattle.text.specs.Text.{decimal, last};
+ghost use Rattle.text.specs.Text.{decimal};
+ghost use Rattle.text.specs.scaffold.Digits.{last};
 
 // A buffer that is written from a place on, and the place after what was put last.
 #[derive(Drop)]

@@ -1,4 +1,4 @@
--- Sums where a test holds, as the code makes them.
+-- Sums where a test holds, as the laws of a row have them.
 use Rattle.std.specs.Prelude.{Bool, true, false}
 use Rattle.sums.specs.Sums.{no_sums}
 use Rattle.sums.specs.declared.Sums.{Sums}
