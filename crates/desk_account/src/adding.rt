@@ -45,9 +45,7 @@ fn fill_up(account: &mut Account, count: u32, record: &mut [u8]) -> Result<(), S
 {
     for taken in 0..count {
         numbers::put(record, 3, account.minutes());
-        if let Err(refusal) = add_to(account, record) {
-            return Err(Stopped { taken, refusal });
-        }
+        add_to(account, record).map_err(|refusal| Stopped { taken, refusal })?;
     }
     Ok(())
 }

@@ -1,6 +1,7 @@
 // The calls that read a record: `site`, `minute` and `class`.
 use answers::Answers;
 use minute::Minute;
+use refusals::Refusal;
 use site::Site;
 use std::fmt::Write;
 use tool06::Class;
@@ -20,11 +21,18 @@ fn put_site(out: &mut Answers, site: Site) {
     );
 }
 
-pub(crate) fn site(record: &[u8], out: &mut Answers) {
-    match reading::read_site(record) {
-        Ok(site) => put_site(out, site),
+// What was read, or why it is refused.
+fn put<T: Drop, F: FnOnce(&mut Answers, T)>(out: &mut Answers, read: Result<T, Refusal>, field: F)
+    requires { F.IsAlwaysCallable field }
+{
+    match read {
+        Ok(fields) => field(out, fields),
         Err(refusal) => out.refused(refusal),
     }
+}
+
+pub(crate) fn site(record: &[u8], out: &mut Answers) {
+    put(out, reading::read_site(record), put_site);
 }
 
 fn put_minute(out: &mut Answers, minute: Minute) {
@@ -42,10 +50,7 @@ fn put_minute(out: &mut Answers, minute: Minute) {
 }
 
 pub(crate) fn minute(record: &[u8], out: &mut Answers) {
-    match reading::read_minute(record) {
-        Ok(minute) => put_minute(out, minute),
-        Err(refusal) => out.refused(refusal),
-    }
+    put(out, reading::read_minute(record), put_minute);
 }
 
 fn put_class(out: &mut Answers, class: Class) {
@@ -57,8 +62,9 @@ fn put_class(out: &mut Answers, class: Class) {
 }
 
 pub(crate) fn class(record: &[u8], out: &mut Answers) {
-    match reading::read_site(record) {
-        Ok(site) => put_class(out, rules::class_of(site)),
-        Err(refusal) => out.refused(refusal),
-    }
+    put(
+        out,
+        reading::read_site(record).map(|site| rules::class_of(site)),
+        put_class,
+    );
 }

@@ -2,7 +2,7 @@
 ghost use Rattle.std.specs.Prelude.{◌≡◌, ◌+◌, ◌≤◌, ◌==◌, length, drop, position};
 ghost use Rattle.words.specs.Words.{until_space};
 
-const SPACE: u8 = 32;
+const SPACE: u8 = b' ';
 
 // Where the word ends that starts at a place: at the next space, or with the line.
 pub fn end_of_word(line: &[u8], from: usize) -> usize
