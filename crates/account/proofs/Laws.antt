@@ -1,4 +1,6 @@
 -- What the calls keep of every account.
+use Rattle.std.specs.Prelude.{Result, Ok, Err}
+use Rattle.refusals.specs.declared.refusal.Refusal.{Refusal}
 use Prim.Native.Nat.{ℕ, ◌+◌, ◌-◌, ◌*◌, ◌/◌, ◌≤◌, ◌<◌}
 use mathlib.Core.Path.{◌≡◌, refl, sym, ap, subst, ◌∙◌}
 use mathlib.Core.Bool.{Bool, true, false, not}
@@ -8,7 +10,6 @@ use lib.Dec.{eqb}
 use lib.IntN.{ℤ}
 use lib.ListN.{length, length-set}
 use Rattle.refusals.specs.Tables.{first_of}
-use Rattle.refusals.specs.declared.verdict.Verdict.TheVariants.{Fine}
 use Rattle.site.specs.Rules.{year_minutes}
 use Rattle.site.specs.declared.Site.{Site}
 use Rattle.sums.specs.Sums.{no_sums, ◌⊞◌, one_if}
@@ -18,13 +19,10 @@ use Rattle.sums.specs.declared.Sums.{Sums}
 use Rattle.sums.proofs.Laws.{none_within, plus_within}
 use Rattle.calendar.proofs.Months.{day_in_year, each_in_one}
 use Rattle.rows.specs.Rows.{row_of}
-use Rattle.rows.specs.scaffold.Only.{only}
 use Rattle.rows.proofs.Laws.{length_with_in, together_with_in, together_none, twelve_rows, no_row, row_at_most, rows-within_with}
 use Rattle.counts.proofs.Laws.{one_more_at, sum_more}
 use Rattle.tool06.specs.Tool.{Masses, Positive}
 use Rattle.tool06.specs.declared.figures.Figures.{Figures}
-use Rattle.tool06.specs.declared.figures.Judged.{Judged}
-use Rattle.tool06.specs.declared.figures.Judged.TheVariants.{Accepted, Refused}
 use Rattle.due.specs.Answer.{answer}
 use Rattle.account.specs.Adding.{due, worth, month_due, with_minute, after_answer, add_to}
 use Rattle.account.specs.Kept.{Kept}
@@ -32,7 +30,6 @@ use Rattle.account.specs.scaffold.Small.{Small}
 use Rattle.account.specs.Opening.{open_lines, fresh, opened}
 use Rattle.account.specs.Promises.{OnlyOpened, RefusedStays}
 use Rattle.account.specs.declared.Account.{Account}
-use Rattle.account.specs.declared.open.Opened.{Opened}
 use Rattle.account.proofs.Accepted.{accepted}
 use Rattle.account.proofs.Opens.{opens_kept, list_is_kept, as_given, site_examined}
 use Rattle.account.proofs.Within.{year-within, one_if_within, gwp_times}
@@ -53,15 +50,6 @@ module _ (f : Figures) where
   gas_one : (worth f).gas ≤ 1
   unfolding worth
   gas_one = one_if_within (not (eqb f.rule 0))
-
-only-within : (here : Bool) {s : Sums} → Within s → Within (only here s)
-only-within true w = w
-only-within false w = none_within
-
-only_one : (here : Bool) (f : Figures) → ((only here (worth f)).minutes ≤ 1) × ((only here (worth f)).gas ≤ 1)
-unfolding no_sums
-only_one true f = (omega (arith, minutes_one f), gas_one f)
-only_one false f = (omega arith, omega arith)
 
 -- a row is at most the sums
 pub row_most : {a : Account} → Kept a → (k : ℕ) → ((row_of a.rows k).minutes ≤ a.sums.minutes) × ((row_of a.rows k).gas ≤ a.sums.gas)
@@ -86,16 +74,15 @@ module _ {a : Account} {f : Figures} (kept : Kept a) (small : Small f) (room : a
       }
 
   -- and into each row
-  pub row_fits : (here : Bool) (k : ℕ) → Fits (row_of a.rows k ⊞ only here (worth f))
+  pub row_fits : (k : ℕ) → Fits (row_of a.rows k ⊞ worth f)
   unfolding ◌⊞◌
-  row_fits here k =
+  row_fits k =
       let y = (year-within a.site.year).1 in
       let most = row_most kept k in
-      let one = only_one here f in
       record {
-        minutes_fit = omega (arith, most.0, one.0);
-        gas_fits = omega (arith, most.1, one.1, kept.gas_counted);
-        within = plus_within (kept.rows_within k) (only-within here small.worth_within);
+        minutes_fit = omega (arith, most.0, minutes_one f);
+        gas_fits = omega (arith, most.1, gas_one f, kept.gas_counted);
+        within = plus_within (kept.rows_within k) small.worth_within;
       }
 
   pub kept_with : Kept (with_minute a f)
@@ -121,20 +108,20 @@ pub kept_add : (m : Masses) → Positive m → {a : Account} → Kept a → (byt
 unfolding add_to
 kept_add m pos {a} kept bytes = by_answer (answer m (due a) bytes) refl
   where
-    by_answer : (j : Judged) → answer m (due a) bytes ≡ j → Kept (after_answer a j)
-    by_answer (Accepted f) e = let told = accepted m pos a (site_examined kept) bytes f e in kept_with kept told.0 told.1
-    by_answer (Refused r) e = kept
+    by_answer : (j : Result Figures Refusal) → answer m (due a) bytes ≡ j → Kept (after_answer a j)
+    by_answer (Ok f) e = let told = accepted m pos a (site_examined kept) bytes f e in kept_with kept told.0 told.1
+    by_answer (Err r) e = kept
 
 -- an accepted record is one minute more
 pub minutes_more : (a : Account) (f : Figures) → (with_minute a f).sums.minutes ≡ a.sums.minutes + 1
 unfolding with_minute ◌⊞◌
 minutes_more a f = ap (λ (n : ℕ). a.sums.minutes + n) (minutes_one f)
 
-pub minutes_on : (m : Masses) (a : Account) (bytes : List ℕ) (f : Figures) → answer m (due a) bytes ≡ Accepted f → (add_to m a bytes).account.sums.minutes ≡ a.sums.minutes + 1
+pub minutes_on : (m : Masses) (a : Account) (bytes : List ℕ) (f : Figures) → answer m (due a) bytes ≡ Ok f → (add_to m a bytes).account.sums.minutes ≡ a.sums.minutes + 1
 unfolding add_to
 minutes_on m a bytes f e = rw e (minutes_more a f)
 
-pub fresh_kept : (s : Site) (days : List ℤ) → first_of (open_lines s days) ≡ Fine → Kept (fresh s days)
+pub fresh_kept : (s : Site) (days : List ℤ) → first_of (open_lines s days) ≡ Ok tt → Kept (fresh s days)
 unfolding fresh no_sums
 fresh_kept s days fine = record {
   opens = opens_kept s days fine;
@@ -149,13 +136,22 @@ fresh_kept s days fine = record {
   rows_within = λ k. subst Within (sym (no_row k)) none_within;
 }
 
+-- opening gives the account of these fields, and nothing was refused
+pub opened_is : (s : Site) (days : List ℤ) {a : Account} → opened s days ≡ Ok a → (first_of (open_lines s days) ≡ Ok tt) × (a ≡ fresh s days)
+unfolding opened
+opened_is s days {a} e = by_verdict (first_of (open_lines s days)) refl
+  where
+    by_verdict : (v : Result Unit Refusal) → first_of (open_lines s days) ≡ v → (first_of (open_lines s days) ≡ Ok tt) × (a ≡ fresh s days)
+    by_verdict (Ok tt) fine = let given = rw fine at e in (fine, cc)
+    by_verdict (Err r) refused = let none = rw refused at e in absurd (let y : ◌≡◌ {A = ℕ} 0 1 = cc in omega arith)
+
+-- what opening gave is kept
+pub opened_kept : (s : Site) (days : List ℤ) {given : Result Account Refusal} {a : Account} → given ≡ opened s days → given ≡ Ok a → Kept a
+opened_kept s days is e = let told = opened_is s days (sym is ∙ e) in rw (told.1) (fresh_kept s days told.0)
+
 pub only-opened : OnlyOpened
 unfolding opened fresh
-only-opened s days = (λ k. as_given s days k.list_kept k.opens, fresh_kept s days)
-
--- what opening gave is kept where it refused nothing
-pub opened_kept : (s : Site) (days : List ℤ) {o : Opened} → o ≡ opened s days → o.verdict ≡ Fine → Kept o.account
-opened_kept s days {o} is fine = rw is ((only-opened s days).1 (ap (λ (x : Opened). x.verdict) (sym is) ∙ fine))
+only-opened s days = (λ k. rw (as_given s days k.list_kept k.opens) refl, opened_kept s days refl)
 
 pub refused_stays : RefusedStays
 unfolding add_to

@@ -1,4 +1,5 @@
 -- What opening examined.
+use Rattle.std.specs.Prelude.{Ok}
 use Prim.Native.Nat.{◌≤◌}
 use mathlib.Core.Path.{◌≡◌, subst}
 use mathlib.Core.List.{List, [], ◌∷◌}
@@ -9,7 +10,6 @@ use lib.ListN.{length}
 use Rattle.exact.proofs.Bools.{or_false}
 use Rattle.refusals.specs.Tables.{Line, when, first_of}
 use Rattle.refusals.specs.declared.refusal.Refusal.TheVariants.{List as LIST}
-use Rattle.refusals.specs.declared.verdict.Verdict.TheVariants.{Fine}
 use Rattle.refusals.proofs.Tables.{split, none}
 use Rattle.site.specs.Rules.{site_lines, Examined}
 use Rattle.site.specs.declared.Site.{Site}
@@ -23,8 +23,8 @@ module _ (s : Site) (days : List ℤ) where
   abbrev list_lines : List Line
   list_lines = when (list_wrong days (last_day s.year)) LIST ∷ []
 
-  module _ (fine : first_of (open_lines s days) ≡ Fine) where
-    both : Examined s × (first_of list_lines ≡ Fine)
+  module _ (fine : first_of (open_lines s days) ≡ Ok tt) where
+    both : Examined s × (first_of list_lines ≡ Ok tt)
     unfolding open_lines
     both = split (site_lines s) list_lines fine
 
@@ -41,11 +41,11 @@ module _ (s : Site) (days : List ℤ) where
     pub listed : listed_days (maintenance_of days) ≡ days
     listed = listed-days days not_long
 
-    pub opens_kept : first_of (open_lines s (listed_days (maintenance_of days))) ≡ Fine
+    pub opens_kept : first_of (open_lines s (listed_days (maintenance_of days))) ≡ Ok tt
     opens_kept = rw listed fine
 
-  pub as_given : KeptList (maintenance_of days) → first_of (open_lines s (listed_days (maintenance_of days))) ≡ Fine → first_of (open_lines s days) ≡ Fine
-  as_given k fine = subst (λ (ds : List ℤ). first_of (open_lines s ds) ≡ Fine) (listed-days days (kept_few days k)) fine
+  pub as_given : KeptList (maintenance_of days) → first_of (open_lines s (listed_days (maintenance_of days))) ≡ Ok tt → first_of (open_lines s days) ≡ Ok tt
+  as_given k fine = subst (λ (ds : List ℤ). first_of (open_lines s ds) ≡ Ok tt) (listed-days days (kept_few days k)) fine
 
 pub site_examined : {a : Account} → Kept a → Examined a.site
 site_examined {a} k = examined a.site (listed_days a.maintenance) k.opens

@@ -1,7 +1,7 @@
 -- Each call's contract leaves one result.
 -- `Learnt κs a x e` is what the contract says of the arguments a, the result x and the state e at exit; κs are the lifetimes.
 use mathlib.Core.Path.{sym, ◌∙◌}
-use Rattle.exact.specs.One.{OneResult}
+use Rattle.exact.specs.One.{OneResult, OneOutcome}
 use Rattle.tool06.proofs.Ones.{ones, ones_positive}
 use Rattle.account.proofs.Account.add.Reads as add
 use Rattle.account.proofs.Account.chart.Reads as chart
@@ -17,8 +17,11 @@ use Rattle.account.proofs.Account.rows.Reads as rows
 pub open_one : (κs : _) (a : _) → OneResult (opening.Learnt κs a)
 open_one κs a x y e f p q = p ∙ sym q
 
-pub add_one : (κs : _) (a : _) → OneResult (add.Learnt κs a)
-add_one κs a x y e f p q = p ones ones_positive ∙ sym (q ones ones_positive)
+pub add_one : (κs : _) (a : _) → OneOutcome (λ e. e.0.now) (add.Learnt κs a)
+add_one κs a x y e f p q =
+    let u = p ones ones_positive in
+    let v = q ones ones_positive in
+    (u.0 ∙ sym v.0, u.1 ∙ sym v.1)
 
 pub co2e_one : (κs : _) (a : _) → OneResult (co2e.Learnt κs a)
 co2e_one κs a x y e f p q = p ∙ sym q

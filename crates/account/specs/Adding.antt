@@ -1,18 +1,16 @@
 -- R46, R55, R56, R91: adding a minute: its answer, and what an accepted minute adds.
-use Rattle.std.specs.Prelude.{ℕ, ◌/◌, not, List, eqb}
+use Rattle.refusals.specs.declared.refusal.Refusal.{Refusal}
+use Rattle.std.specs.Prelude.{Result, Ok, Err, ℕ, ◌/◌, not, List, eqb}
 use Rattle.sums.specs.Sums.{◌⊞◌, one_if}
 use Rattle.sums.specs.declared.Sums.{Sums}
 use Rattle.calendar.specs.Calendar.{month_of}
 use Rattle.rows.specs.Rows.{with_in}
 use Rattle.tool06.specs.Tool.{Masses}
 use Rattle.tool06.specs.declared.figures.Figures.{Figures}
-use Rattle.tool06.specs.declared.figures.Judged.{Judged}
-use Rattle.tool06.specs.declared.figures.Judged.TheVariants.{Accepted, Refused}
 use Rattle.counts.specs.Counts.{one_more}
 use Rattle.due.specs.Answer.{answer}
 use Rattle.due.specs.declared.Due.{Due}
 use Rattle.account.specs.declared.Account.{Account}
-use Rattle.account.specs.declared.add.Added.{Added}
 
 -- R51, R55, R56: a record is answered at the account's site and with its list, as the minute expected next, whose number is that of the minutes accepted so far
 abbrev pub due : Account → Due
@@ -41,10 +39,15 @@ with_minute a f = record {
 }
 
 -- R56, R58: "A refusal returns its number and nothing else; the account .. stay[s]"
-abbrev pub after_answer : Account → Judged → Account
-after_answer a (Accepted f) = with_minute a f
-after_answer a (Refused r) = a
+abbrev pub after_answer : Account → Result Figures Refusal → Account
+after_answer a (Ok f) = with_minute a f
+after_answer a (Err r) = a
 
 -- R55, R56: the answer, and the account after it
+pub record Added : Type 0 where
+  pub answer : Result Figures Refusal
+  pub account : Account
+
+-- R55, R56: what adding a record comes to
 unfoldable pub add_to : Masses → Account → List ℕ → Added
 add_to m a b = record { answer = answer m (due a) b; account = after_answer a (answer m (due a) b) }

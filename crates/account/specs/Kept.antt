@@ -1,7 +1,6 @@
 -- R89: what every account that the calls can give has: a site and a list that opening does not refuse, room for its sums, and arrays of their length.
-use Rattle.std.specs.Prelude.{ℕ, ◌+◌, ◌≤◌, ◌≡◌, length, get_or}
+use Rattle.std.specs.Prelude.{Ok, ℕ, ◌+◌, ◌≤◌, ◌≡◌, length, get_or}
 use Rattle.refusals.specs.Tables.{first_of}
-use Rattle.refusals.specs.declared.verdict.Verdict.TheVariants.{Fine}
 use Rattle.site.specs.Rules.{year_minutes}
 use Rattle.sums.specs.Within.{Within}
 use Rattle.rows.specs.Rows.{month_count, row_of, together}
@@ -13,7 +12,7 @@ use Rattle.account.specs.declared.Account.{Account}
 
 -- R89: what every call that takes an account requires of it
 pub record Kept (a : Account) : Type 0 where
-  pub opens : first_of (open_lines a.site (listed_days a.maintenance)) ≡ Fine
+  pub opens : first_of (open_lines a.site (listed_days a.maintenance)) ≡ Ok tt
   pub minutes_within : a.sums.minutes ≤ year_minutes a.site.year
   pub list_kept : KeptList a.maintenance
   pub counts_all : length a.counts ≡ rule_count

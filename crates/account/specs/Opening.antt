@@ -1,7 +1,9 @@
 -- R53, R54: "Opening an account takes a site's fields: 3 to 9, then 10".
-use Rattle.std.specs.Prelude.{ℕ, ◌-◌, ◌/◌, List, [], ◌∷◌, ◌++◌, ℤ, pos, replicate}
+use Rattle.std.specs.Prelude.{Result, ℕ, ◌-◌, ◌/◌, List, [], ◌∷◌, ◌++◌, ℤ, pos, replicate}
 use Rattle.refusals.specs.Tables.{Line, when, first_of}
+use Rattle.refusals.specs.declared.refusal.Refusal.{Refusal}
 use Rattle.refusals.specs.declared.refusal.Refusal.TheVariants.{List as LIST}
+use Rattle.records.specs.House.{answered}
 use Rattle.site.specs.Rules.{year_minutes, site_lines}
 use Rattle.site.specs.declared.Site.{Site}
 use Rattle.sums.specs.Sums.{no_sums}
@@ -9,7 +11,6 @@ use Rattle.rows.specs.Rows.{no_rows}
 use Rattle.maintenance.specs.Days.{list_wrong, maintenance_of}
 use Rattle.tool06.specs.Rules.{rule_count}
 use Rattle.account.specs.declared.Account.{Account}
-use Rattle.account.specs.declared.open.Opened.{Opened}
 
 -- R14: "the year's last day": "Days count from 0"
 unfoldable pub last_day : ℕ → ℤ
@@ -29,6 +30,6 @@ fresh s days = record {
   rows = no_rows;
 }
 
--- R53, R54: beside a refusal stands an account that meets no call's requirement (OnlyOpened)
-unfoldable pub opened : Site → List ℤ → Opened
-opened s days = record { verdict = first_of (open_lines s days); account = fresh s days }
+-- R53, R54: that account, or the refusal alone: of what is refused no call takes an account (OnlyOpened)
+unfoldable pub opened : Site → List ℤ → Result Account Refusal
+opened s days = answered (fresh s days) (first_of (open_lines s days))

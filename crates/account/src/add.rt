@@ -1,31 +1,24 @@
 // Adding a minute.
 ghost use Rattle.std.specs.Prelude.{◌≡◌, ◌<◌};
-ghost use Rattle.account.specs.Adding.{due, with_gas, worth, with_minute, after_answer, add_to};
+ghost use Rattle.account.specs.Adding.{due, with_gas, worth, with_minute, add_to};
 ghost use Rattle.account.specs.Kept.{Kept};
 ghost use Rattle.account.specs.scaffold.Small.{Small};
 ghost use Rattle.site.specs.Rules.{year_minutes};
 ghost use Rattle.tool06.specs.Tool.{Masses, Positive};
 ghost use Rattle.tool06.specs.declared.figures.Figures.{Figures};
-ghost use Rattle.tool06.specs.declared.figures.Judged.TheVariants.{Accepted};
 
 use crate::Account;
 use due::Due;
+use refusals::Refusal;
 use site::Site;
 use sums::Sums;
-use tool06::{Figures, Judged};
-
-// The answer, and the account after it: an enum cannot hold the account's arrays.
-#[derive(Clone, Copy)]
-pub struct Added {
-    pub answer: Judged,
-    pub account: Account,
-}
+use tool06::Figures;
 
 // 1 for a minute with gas.
 fn with_gas(rule: u8) -> u32
     ensures { result ≡ with_gas rule }
 {
-    if rule == Figures::NO_GAS { 0 } else { 1 }
+    u32::from(rule != Figures::NO_GAS)
 }
 
 // What one minute is worth.
@@ -43,61 +36,38 @@ fn worth(figures: Figures) -> Sums
 
 impl Account {
     // The minute that is expected next, with what it is answered by.
-    pub(crate) fn due(self) -> Due
-        ensures { result ≡ due self }
+    pub(crate) fn due(&self) -> Due
+        ensures { result ≡ due self.now }
     {
-        let site = self.site;
-        let maintenance = self.maintenance;
-        let sums = self.sums;
         Due {
-            site,
-            maintenance,
-            minute: sums.minutes,
+            site: self.site,
+            maintenance: self.maintenance,
+            minute: self.sums.minutes,
         }
     }
 
-    // The account with one minute more.
-    fn with_minute(mut self, figures: Figures) -> Account
-        requires kept { Kept self }
+    // One minute more.
+    fn take(&mut self, figures: Figures)
+        requires kept { Kept self.old }
         requires small { Small figures }
-        requires minutes_bound { self.sums.minutes < year_minutes self.site.year }
-        ensures { result ≡ with_minute self figures }
+        requires minutes_bound { self.old.sums.minutes < year_minutes self.old.site.year }
+        ensures { self.new ≡ with_minute self.old figures }
     {
-        let site = self.site;
-        let sums = self.sums;
-        let counts = self.counts;
-        let rows = self.rows;
         let one = worth(figures);
-        let month = calendar::month_of(sums.minutes / Site::DAY_MINUTES, site.year);
-        let raised = counts::one_more(counts, figures.rule);
-        let months = rows::with_in(rows, month, one);
-        self.sums = sums.plus(one);
-        self.counts = raised;
-        self.rows = months;
-        self
+        let day = self.sums.minutes / Site::DAY_MINUTES;
+        let month = calendar::month_of(day, self.site.year);
+        rows::add_in(&mut self.rows, month, one);
+        counts::one_more(&mut self.counts, figures.rule);
+        self.sums = self.sums.plus(one);
     }
 
-    // The account after an answer: a refusal leaves it as it is.
-    fn after(self, answer: Judged) -> Account
-        requires kept { Kept self }
-        requires small { (f : Figures) → answer ≡ Accepted f → Small f × (self.sums.minutes < year_minutes self.site.year) }
-        ensures { result ≡ after_answer self answer }
+    // Adds a minute from any bytes: its figures, or its refusal, which leaves the account as it is.
+    pub fn add(&mut self, bytes: &[u8]) -> Result<Figures, Refusal>
+        requires { Kept self.old }
+        ensures { (m : Masses) → Positive m → (result ≡ (add_to m self.old bytes.now).answer) × (self.new ≡ (add_to m self.old bytes.now).account) }
     {
-        match answer {
-            Judged::Accepted(figures) => self.with_minute(figures),
-            Judged::Refused(_) => self,
-        }
-    }
-
-    // Adds a minute from any bytes.
-    pub fn add(self, bytes: &[u8]) -> Added
-        requires { Kept self }
-        ensures { (m : Masses) → Positive m → result ≡ add_to m self bytes.now }
-    {
-        let answer = self.due().answer(bytes);
-        Added {
-            answer,
-            account: self.after(answer),
-        }
+        let figures = self.due().answer(bytes)?;
+        self.take(figures);
+        Ok(figures)
     }
 }

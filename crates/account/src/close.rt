@@ -7,12 +7,6 @@ use crate::Account;
 use refusals::Refusal;
 use tonnes::{in_tonnes, whole_tonnes};
 
-#[derive(Clone, Copy)]
-pub enum Closed {
-    Tonnes(u64),
-    Refused(Refusal),
-}
-
 // Methane fed and CO2 equivalent emitted, in tonnes.
 #[derive(Clone, Copy)]
 pub struct Point {
@@ -32,15 +26,15 @@ impl Account {
     }
 
     // CO2 equivalent in tonnes, rounded up, or 20 where minutes are missing.
-    pub fn close(self) -> Closed
+    pub fn close(self) -> Result<u64, Refusal>
         requires { Kept self }
         ensures { result ≡ closing self }
     {
         let mg = self.co2e();
         if self.due().is_full() {
-            Closed::Tonnes(whole_tonnes(mg))
+            Ok(whole_tonnes(mg))
         } else {
-            Closed::Refused(Refusal::Incomplete)
+            Err(Refusal::Incomplete)
         }
     }
 

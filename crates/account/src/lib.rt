@@ -6,10 +6,8 @@ mod close;
 mod open;
 mod read;
 
-pub use add::Added;
-pub use close::{Closed, Point};
+pub use close::Point;
 use maintenance::Maintenance;
-pub use open::Opened;
 use rows::MONTHS;
 use site::Site;
 use sums::Sums;

@@ -9,13 +9,6 @@ use site::Site;
 use sums::Sums;
 use tool06::Figures;
 
-// The verdict, and the account beside it: an enum cannot hold the account's arrays.
-#[derive(Clone, Copy)]
-pub struct Opened {
-    pub verdict: Verdict,
-    pub account: Account,
-}
-
 // The year's last day, counted from 0.
 fn last_day(site: Site) -> i16
     ensures { result ≡ last_day site.year }
@@ -38,14 +31,12 @@ impl Account {
         }
     }
 
-    // An account of this site with this maintenance list. Beside the first of the refusals 3 to 10 it is one that no call takes.
-    pub fn open(site: Site, list: &[i16]) -> Opened
+    // An account of this site with this maintenance list, or the first of the refusals 3 to 10.
+    pub fn open(site: Site, list: &[i16]) -> Result<Account, Refusal>
         ensures { result ≡ opened site list.now }
     {
         let wrong = maintenance::list_wrong(list, last_day(site));
-        Opened {
-            verdict: site.verdict().also(wrong, Refusal::List),
-            account: Account::fresh(site, list),
-        }
+        site.verdict().also(wrong, Refusal::List)?;
+        Ok(Account::fresh(site, list))
     }
 }

@@ -1,4 +1,5 @@
 -- What a month's row has.
+use Rattle.std.specs.Prelude.{Ok}
 use Prim.Native.Nat.{ℕ, ◌≤◌}
 use mathlib.Core.Path.{◌≡◌, refl}
 use mathlib.Core.Bool.{Bool, true, false}
@@ -13,7 +14,6 @@ use Rattle.account.specs.declared.Account.{Account}
 use Rattle.account.proofs.Laws.{row_most}
 use Rattle.account.proofs.Within.{year-within}
 use Rattle.by_month.specs.Month.{month_row, month_asked}
-use Rattle.by_month.specs.declared.Asked.TheVariants.{Is}
 use Rattle.by_month.specs.declared.Row.{Row}
 
 -- a month that is not refused
@@ -27,7 +27,7 @@ pub record GivenRow (a : Account) (k : ℕ) (row : Row) : Type 0 where
   pub minutes_most_lem : row.sums.minutes ≤ minutes_most
   pub gas_most : row.sums.gas ≤ minutes_most
 
-pub given-row : {a : Account} → Kept a → (k : ℕ) (row : Row) → month_asked a k ≡ Is row → GivenRow a k row
+pub given-row : {a : Account} → Kept a → (k : ℕ) (row : Row) → month_asked a k ≡ Ok row → GivenRow a k row
 unfolding month_asked
 given-row {a} kept k row e = by_test (outside 1 12 k) refl
   where

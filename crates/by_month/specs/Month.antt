@@ -1,5 +1,6 @@
 -- R92: the call for one month's row.
-use Rattle.std.specs.Prelude.{ℕ, ◌*◌, List, [], ◌∷◌}
+use Rattle.refusals.specs.declared.refusal.Refusal.{Refusal}
+use Rattle.std.specs.Prelude.{Result, ℕ, ◌*◌, List, [], ◌∷◌}
 use Rattle.exact.specs.Ranges.{outside}
 use Rattle.refusals.specs.Tables.{Line, when, first_of}
 use Rattle.refusals.specs.declared.refusal.Refusal.TheVariants.{Month}
@@ -7,8 +8,6 @@ use Rattle.records.specs.House.{answered}
 use Rattle.rows.specs.Rows.{month_count, row_of}
 use Rattle.account.specs.declared.Account.{Account}
 use Rattle.by_month.specs.declared.Row.{Row}
-use Rattle.by_month.specs.declared.Asked.{Asked}
-use Rattle.by_month.specs.declared.Asked.TheVariants.{Is, Refused}
 
 -- R92: "23 MONTH, when the asked month is not 1 to 12"
 abbrev pub month_lines : ℕ → List Line
@@ -19,5 +18,5 @@ abbrev pub month_row : Account → ℕ → Row
 month_row a k = record { sums = row_of a.rows k; co2e = a.site.gwp * (row_of a.rows k).emitted }
 
 -- R92: that, or 23
-unfoldable pub month_asked : Account → ℕ → Asked
-month_asked a k = answered Is Refused (month_row a k) (first_of (month_lines k))
+unfoldable pub month_asked : Account → ℕ → Result Row Refusal
+month_asked a k = answered (month_row a k) (first_of (month_lines k))

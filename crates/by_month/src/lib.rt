@@ -17,24 +17,18 @@ pub struct Row {
     pub co2e: u64,
 }
 
-#[derive(Clone, Copy)]
-pub enum Asked {
-    Is(Row),
-    Refused(Refusal),
-}
-
 // The row of a month from 1 to 12, or 23.
-pub fn month(account: Account, month: u32) -> Asked
+pub fn month(account: Account, month: u32) -> Result<Row, Refusal>
     requires { Kept account }
     ensures { result ≡ month_asked account month }
 {
     let site = account.site();
     let rows = account.rows();
     if (month < 1) | (MONTHS < month as usize) {
-        return Asked::Refused(Refusal::Month);
+        return Err(Refusal::Month);
     }
     let sums = rows[month as usize - 1];
-    Asked::Is(Row {
+    Ok(Row {
         sums,
         co2e: site.gwp as u64 * sums.emitted,
     })

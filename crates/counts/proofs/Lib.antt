@@ -1,3 +1,2 @@
-pub mod Counting
 pub mod Laws
 pub mod Unique

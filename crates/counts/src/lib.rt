@@ -1,41 +1,21 @@
 // The minutes under each rule.
 #![tactic(auto)]
 
-ghost use Rattle.std.specs.Prelude.{◌≡◌, ◌+◌, ◌≤◌, ◌<◌, eqb, length, get_or};
-ghost use Rattle.sums.specs.Sums.{one_if};
+ghost use Rattle.std.specs.Prelude.{◌≡◌, ◌≤◌, length};
 ghost use Rattle.sums.specs.scaffold.Fits.{minutes_most};
 ghost use Rattle.tool06.specs.Rules.{rule_count};
 ghost use Rattle.counts.specs.Counts.{sum, one_more};
 
 use tool06::Figures;
 
-// The count at a place, with one more where it is the rule's.
-fn counted(counts: [u32; Figures::RULES], place: usize, rule: u8) -> u32
-    requires { (place < rule_count) × (sum counts ≤ minutes_most) }
-    ensures { result ≡ get_or counts place 0 + one_if (eqb rule place) }
+// One more under a rule, if there is one of that number.
+#[tactic(auto, using(crate::proofs::Laws::one_within))]
+pub fn one_more(counts: &mut [u32; Figures::RULES], rule: u8)
+    requires { (length counts.old ≡ rule_count) × (sum counts.old ≤ minutes_most) }
+    ensures { counts.new ≡ one_more counts.old rule }
 {
-    if rule as usize == place {
-        counts[place] + 1
-    } else {
-        counts[place]
+    let place = rule as usize;
+    if place < Figures::RULES {
+        counts[place] += 1;
     }
-}
-
-// One more under a rule. Each count is made anew, since an array that is stored to at one place is slow to copy afterwards.
-pub fn one_more(counts: [u32; Figures::RULES], rule: u8) -> [u32; Figures::RULES]
-    requires { (length counts ≡ rule_count) × (sum counts ≤ minutes_most) }
-    ensures { result ≡ one_more counts rule }
-{
-    [
-        counted(counts, 0, rule),
-        counted(counts, 1, rule),
-        counted(counts, 2, rule),
-        counted(counts, 3, rule),
-        counted(counts, 4, rule),
-        counted(counts, 5, rule),
-        counted(counts, 6, rule),
-        counted(counts, 7, rule),
-        counted(counts, 8, rule),
-        counted(counts, 9, rule),
-    ]
 }

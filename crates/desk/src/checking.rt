@@ -2,24 +2,28 @@
 ghost use Rattle.account.specs.Kept.{Kept};
 
 use account::Account;
-use answers::{answer, put};
-use run::Checked;
+use answers::Answers;
+use run::Refused;
+use std::fmt::Write;
 
-pub(crate) fn check(account: Account, records: &[u8], out: &mut [u8], at: usize) -> usize
+pub(crate) fn check(account: Account, records: &[u8], out: &mut Answers)
     requires { Kept account }
 {
     match run::check_run(account, records) {
-        Checked::Fine => put::text(out, at, b"fine\n"),
-        Checked::Run(refusal) => put::refused(out, at, refusal),
-        Checked::At {
-            day,
-            minute,
-            refusal,
-        } => answer(
-            out,
-            at,
-            b"day %u minute %u refused %u\n",
-            &[day as u64, minute as u64, refusal.number() as u64],
-        ),
+        Ok(()) => out.text(b"fine\n"),
+        Err(Refused::Run(refusal)) => out.refused(refusal),
+        Err(
+            Refused::At {
+                day,
+                minute,
+                refusal,
+            },
+        ) => {
+            let _ = write!(
+                out,
+                "day {day} minute {minute} refused {}\n",
+                refusal.number(),
+            );
+        }
     }
 }

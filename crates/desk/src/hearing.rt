@@ -2,167 +2,152 @@
 ghost use Rattle.desk_account.specs.Desk.{Ready};
 
 use crate::answer::answer;
-use answers::{LINE_END, end_of};
-use desk_account::turn::Desk;
+use account::Account;
+use answers::Answers;
 use std::io::Read;
+use text::Page;
 
-// What is heard of a line that is longer than its buffer: more than any buffer has.
-const TOO_LONG: usize = 18_446_744_073_709_551_615;
-
-// Answers wait in their buffer until more do than this.
+// Answers wait on their page until more do than this.
 const FULL: usize = 65_536;
 
-// The desk, how much of a line was heard that has no end yet, how much of the answers waits to be printed, and whether others could not be and are lost.
-#[derive(Clone, Copy)]
-pub(crate) struct Heard {
-    pub desk: Desk,
-    pub length: usize,
-    pub at: usize,
-    pub lost: bool,
+// The input could not be read, or answers could not be printed, and that was said.
+#[derive(Clone, Copy, Debug)]
+pub(crate) struct Failed;
+
+// How much of a line was heard that has no end yet; none once that is more than its buffer has.
+#[derive(Drop)]
+struct Line<'a> {
+    buffer: &'a mut [u8],
+    heard: Option<usize>,
 }
 
-// How many bytes of the input came, none at its end, and whether they could be read.
-#[derive(Clone, Copy)]
-pub(crate) struct More {
-    pub count: usize,
-    pub well: bool,
+impl Line<'_> {
+    // Keeps more of the line behind what was heard of it.
+    fn keep(&mut self, more: &[u8]) {
+        let Some(from) = self.heard else {
+            return;
+        };
+        if from <= self.buffer.len() && more.len() <= self.buffer.len() - from {
+            let to = from + more.len();
+            self.buffer[from..to].copy_from_slice(more);
+            self.heard = Some(to);
+        } else {
+            self.heard = None;
+        }
+    }
+
+    fn text(&self) -> Option<&[u8]> {
+        self.buffer.get(..self.heard?)
+    }
 }
 
-// Waits for more of the input.
-pub(crate) fn read_more(rt: &impl Eprint, input: &mut impl Read, chunk: &mut [u8]) -> More {
+// The desk, the line that it hears, room for the bytes that a line spells, and the answers that wait. That the desk is `Ready` stands in clauses: a ghost field beside a lent buffer gets no generated proof.
+#[derive(Drop)]
+pub(crate) struct Talk<'a> {
+    pub desk: Option<Account>,
+    line: Line<'a>,
+    bytes: &'a mut [u8],
+    out: Answers<'a>,
+}
+
+// Waits for more of the input: how many bytes came, none at its end.
+pub(crate) fn read_more(
+    rt: &impl Eprint,
+    input: &mut impl Read,
+    chunk: &mut [u8],
+) -> Result<usize, Failed> {
     match input.read(chunk) {
-        Ok(count) => More { count, well: true },
+        Ok(count) => Ok(count),
         Err(_) => {
             notes::unread(rt);
-            More {
-                count: 0,
-                well: false,
-            }
+            Err(Failed)
         }
     }
-}
-
-// Keeps more of a line behind what was heard of it.
-fn keep(line: &mut [u8], heard: usize, more: &[u8]) -> usize {
-    let mut heard = heard;
-    let mut i: usize = 0;
-    while i < more.len() {
-        if line.len() <= heard {
-            return TOO_LONG;
-        }
-        line[heard] = more[i];
-        heard = heard + 1;
-        i = i + 1;
-    }
-    heard
 }
 
 // Prints the answers, or says that it could not.
-pub(crate) fn print(rt: &(impl Print + Eprint), out: &[u8], at: usize) -> bool {
-    if out.len() < at {
+fn print(rt: &(impl Print + Eprint), out: &mut Answers) -> Result<(), Failed> {
+    let at = out.page.at;
+    out.page.at = 0;
+    let Some(waiting) = out.page.buffer.get(..at) else {
         notes::unwritten(rt);
-        return false;
-    }
-    match rt.write_all(&out[0..at]) {
-        Ok(()) => true,
+        return Err(Failed);
+    };
+    match rt.write_all(waiting) {
+        Ok(()) => Ok(()),
         Err(error) => {
             notes::unprinted(rt, error);
-            false
+            Err(Failed)
         }
     }
 }
 
-// How much of the answers still waits, and whether the others were lost.
-#[derive(Clone, Copy)]
-struct Waiting {
-    at: usize,
-    lost: bool,
-}
-
-// Prints the answers when there are many.
-fn make_room(rt: &(impl Print + Eprint), out: &[u8], at: usize) -> Waiting {
-    if at <= FULL {
-        Waiting { at, lost: false }
-    } else {
-        Waiting {
+impl<'a> Talk<'a> {
+    // No account is open, and nothing was heard.
+    pub fn new(line: &'a mut [u8], bytes: &'a mut [u8], answers: &'a mut [u8]) -> Talk<'a>
+        ensures { Ready result.desk }
+    {
+        let line = Line {
+            buffer: line,
+            heard: Some(0),
+        };
+        let page = Page {
+            buffer: answers,
             at: 0,
-            lost: !print(rt, out, at),
+        };
+        let out = Answers { page };
+        Talk {
+            desk: None,
+            line,
+            bytes,
+            out,
         }
     }
-}
 
-// A line's end: it is answered, and the next begins.
-fn end_line(
-    rt: &(impl Print + Eprint),
-    heard: Heard,
-    line: &[u8],
-    bytes: &mut [u8],
-    out: &mut [u8],
-) -> Heard
-    requires { Ready heard.desk }
-    ensures { Ready result.desk }
-{
-    let turn = answer(heard.desk, line, heard.length, bytes, out, heard.at);
-    let waiting = make_room(rt, out, turn.at);
-    let desk = turn.desk;
-    Heard {
-        desk,
-        length: 0,
-        at: waiting.at,
-        lost: waiting.lost,
+    fn answer(&mut self)
+        requires { Ready self.old.desk }
+        ensures { Ready self.new.desk }
+    {
+        answer(&mut self.desk, self.line.text(), self.bytes, &mut self.out);
     }
-}
 
-// Answers the lines that end in this chunk, and keeps the beginning of the next. The first of them may have begun before.
-pub(crate) fn hear(
-    rt: &(impl Print + Eprint),
-    desk: Desk,
-    length: usize,
-    chunk: &[u8],
-    line: &mut [u8],
-    bytes: &mut [u8],
-    out: &mut [u8],
-) -> Heard
-    requires { Ready desk }
-    ensures { Ready result.desk }
-{
-    let mut current = Heard {
-        desk,
-        length,
-        at: 0,
-        lost: false,
-    };
-    let mut from: usize = 0;
-    while from < chunk.len() {
-        let end = end_of(chunk, from, LINE_END);
-        current.length = keep(line, current.length, &chunk[from..end]);
-        if end == chunk.len() {
-            return current;
+    // A line's end: it is answered, the answers are printed when there are many, and the next begins.
+    fn end_line(&mut self, rt: &(impl Print + Eprint)) -> Result<(), Failed>
+        requires { Ready self.old.desk }
+        ensures { Ready self.new.desk }
+    {
+        self.answer();
+        self.line.heard = Some(0);
+        if FULL < self.out.page.at {
+            print(rt, &mut self.out)?;
         }
-        from = end + 1;
-        current = end_line(rt, current, line, bytes, out);
-        if current.lost {
-            return current;
-        }
+        Ok(())
     }
-    current
-}
 
-// The end of the input, or of what could be read of it: answers a last line that has no end.
-pub(crate) fn end(
-    rt: &(impl Print + Eprint),
-    well: bool,
-    desk: Desk,
-    length: usize,
-    line: &[u8],
-    bytes: &mut [u8],
-    out: &mut [u8],
-) -> bool
-    requires { Ready desk }
-{
-    if !well | (length == 0) {
-        return well;
+    // Answers the lines that end in this chunk, and keeps the beginning of the next. The first of them may have begun before.
+    pub fn hear(&mut self, rt: &(impl Print + Eprint), chunk: &[u8]) -> Result<(), Failed>
+        requires { Ready self.old.desk }
+        ensures { Ready self.new.desk }
+    {
+        let mut rest = chunk;
+        while let Some(end) = rest.iter().position(|byte| *byte == b'\n') {
+            self.line.keep(&rest[..end]);
+            self.end_line(rt)?;
+            rest = &rest[end + 1..];
+        }
+        self.line.keep(rest);
+        print(rt, &mut self.out)
     }
-    let turn = answer(desk, line, length, bytes, out, 0);
-    print(rt, out, turn.at)
+
+    // The end of the input: answers a last line that has no end.
+    pub fn end(&mut self, rt: &(impl Print + Eprint)) -> Result<(), Failed>
+        requires { Ready self.old.desk }
+        ensures { Ready self.new.desk }
+    {
+        if self.line.heard == Some(0) {
+            return Ok(());
+        }
+        self.answer();
+        print(rt, &mut self.out)
+    }
 }

@@ -2,119 +2,74 @@
 ghost use Rattle.account.specs.Kept.{Kept};
 ghost use Rattle.desk_account.specs.Desk.{Ready};
 
-use crate::turn::{Desk, Turn, no_account};
-use account::{Account, Added};
-use answers::answer;
-use forms::take::part;
-use refusals::Verdict;
-use tool06::Judged;
+use crate::turn::no_account;
+use account::Account;
+use answers::Answers;
+use refusals::Refusal;
+use std::fmt::Write;
+use tool06::Figures;
 
 // Adds a record; every account that the calls give stays one.
-fn add_to(account: Account, record: &[u8]) -> Added
-    requires { Kept account }
-    ensures { Kept result.account }
+fn add_to(account: &mut Account, record: &[u8]) -> Result<Figures, Refusal>
+    requires { Kept account.old }
+    ensures { Kept account.new }
 {
     account.add(record)
 }
 
-pub fn add(desk: Desk, record: &[u8], out: &mut [u8], at: usize) -> Turn
-    requires { Ready desk }
-    ensures { Ready result.desk }
+pub fn add(desk: &mut Option<Account>, record: &[u8], out: &mut Answers)
+    requires { Ready desk.old }
+    ensures { Ready desk.new }
 {
-    if desk.open {
-        let expected = desk.account.minutes();
-        let added = add_to(desk.account, record);
-        let answer = added.answer;
-        let account = added.account;
-        Turn {
-            desk: Desk {
-                open: true,
-                account,
-            },
-            at: lines::put_minute(out, at, expected, answer),
+    match desk {
+        Some(account) => {
+            let expected = account.minutes();
+            let answer = add_to(account, record);
+            lines::put_minute(&mut out.page, expected, answer);
         }
-    } else {
-        Turn {
-            desk,
-            at: no_account(out, at),
-        }
+        None => no_account(out),
     }
 }
 
-// How often a record was taken, and the refusal that ended it, if one did.
+// How often a record was taken, and the refusal that ended it.
 #[derive(Clone, Copy)]
-struct Filled {
-    account: Account,
+struct Stopped {
     taken: u32,
-    verdict: Verdict,
+    refusal: Refusal,
 }
 
-// Adds the record of so many bytes a number of times, each time under the minute expected, up to a refusal.
-fn fill_up(account: Account, count: u32, bytes: &mut [u8], size: usize) -> Filled
-    requires { Kept account }
-    ensures { Kept result.account }
+// Adds a record a number of times, each time under the minute expected, up to a refusal.
+fn fill_up(account: &mut Account, count: u32, record: &mut [u8]) -> Result<(), Stopped>
+    requires { Kept account.old }
+    ensures { Kept account.new }
 {
-    let mut current = account;
-    let mut taken: u32 = 0;
-    while taken < count {
-        numbers::put_u32(bytes, 3, current.minutes());
-        let added = add_to(current, part(bytes, 0, size));
-        let answer = added.answer;
-        if let Judged::Refused(refusal) = answer {
-            return Filled {
-                account: current,
-                taken,
-                verdict: Verdict::Refuse(refusal),
-            };
-        }
-        current = added.account;
-        taken = taken + 1;
+    for taken in 0..count {
+        numbers::put(record, 3, account.minutes());
+        add_to(account, record).map_err(|refusal| Stopped { taken, refusal })?;
     }
-    Filled {
-        account: current,
-        taken,
-        verdict: Verdict::Fine,
-    }
+    Ok(())
 }
 
-fn put_filled(out: &mut [u8], at: usize, taken: u32, minute: u32, verdict: Verdict) -> usize {
-    match verdict {
-        Verdict::Fine => answer(out, at, b"taken %u\n", &[taken as u64]),
-        Verdict::Refuse(refusal) => answer(
+fn put_filled(out: &mut Answers, count: u32, minute: u32, filled: Result<(), Stopped>) {
+    let _ = match filled {
+        Ok(()) => write!(out, "taken {count}\n"),
+        Err(Stopped { taken, refusal }) => write!(
             out,
-            at,
-            b"taken %u minute %u refused %u\n",
-            &[taken as u64, minute as u64, refusal.number() as u64],
+            "taken {taken} minute {minute} refused {}\n",
+            refusal.number(),
         ),
-    }
+    };
 }
 
-pub fn fill(
-    desk: Desk,
-    count: u32,
-    bytes: &mut [u8],
-    size: usize,
-    out: &mut [u8],
-    at: usize,
-) -> Turn
-    requires { Ready desk }
-    ensures { Ready result.desk }
+pub fn fill(desk: &mut Option<Account>, count: u32, record: &mut [u8], out: &mut Answers)
+    requires { Ready desk.old }
+    ensures { Ready desk.new }
 {
-    if desk.open {
-        let filled = fill_up(desk.account, count, bytes, size);
-        let account = filled.account;
-        let verdict = filled.verdict;
-        Turn {
-            desk: Desk {
-                open: true,
-                account,
-            },
-            at: put_filled(out, at, filled.taken, account.minutes(), verdict),
+    match desk {
+        Some(account) => {
+            let filled = fill_up(account, count, record);
+            put_filled(out, count, account.minutes(), filled);
         }
-    } else {
-        Turn {
-            desk,
-            at: no_account(out, at),
-        }
+        None => no_account(out),
     }
 }

@@ -1,113 +1,90 @@
-// The calls that write into a lent buffer: `write-site` and `write-minute`. The buffer holds a5 before.
-use answers::{answer, put};
-use forms::take::{u16_of, u32_of};
+// The calls that write into a lent buffer: `write-site` and `write-minute`.
+use answers::Answers;
+use forms::take::Given;
 use minute::{Gas, Minute, Readings};
-use refusals::Verdict;
-use site::{Flows, Site, Temperatures};
+use refusals::Refusal;
+use site::{Limits, Site};
+use std::fmt::Write;
 
-const BEFORE: u8 = 165;
+// What a buffer holds before.
+pub const BEFORE: u8 = 0xa5;
 
-pub fn blank(room: &mut [u8]) {
-    let mut i: usize = 0;
-    while i < room.len() {
-        room[i] = BEFORE;
-        i = i + 1;
-    }
-}
+// The largest buffer that a call can ask for.
+pub const LARGEST: usize = 65_535;
 
-fn u8_of(value: usize) -> u8 {
-    (value % 256) as u8
-}
-
-fn i16_of(value: usize) -> i16 {
-    numbers::signed(u16_of(value))
-}
-
-fn put_verdict(out: &mut [u8], at: usize, verdict: Verdict) -> usize {
-    match verdict {
-        Verdict::Fine => put::text(out, at, b"wrote"),
-        Verdict::Refuse(refusal) => answer(out, at, b"refused %u", &[refusal.number() as u64]),
-    }
+fn put_verdict(out: &mut Answers, verdict: Result<(), Refusal>) {
+    let _ = match verdict {
+        Ok(()) => write!(out, "wrote"),
+        Err(refusal) => write!(out, "refused {}", refusal.number()),
+    };
 }
 
 // What a buffer holds afterwards.
-pub fn put_room(out: &mut [u8], at: usize, room: &[u8]) -> usize {
-    let at = put::text(out, at, b" ");
-    let at = put::hex(out, at, room);
-    put::end(out, at)
+pub fn put_room(out: &mut Answers, room: &[u8]) {
+    out.text(b" ");
+    out.hex(room);
+    out.text(b"\n");
 }
 
-fn site_of(values: [usize; 15]) -> Site {
-    let temperature = Temperatures {
-        lowest: i16_of(values[5]),
-        highest: i16_of(values[6]),
+fn site_of(given: &Given) -> Site {
+    let temperature = Limits {
+        lowest: given.signed(5),
+        highest: given.signed(6),
     };
-    let flow = Flows {
-        lowest: u32_of(values[7]),
-        highest: u32_of(values[8]),
+    let flow = Limits {
+        lowest: given.number(7),
+        highest: given.number(8),
     };
     Site {
-        method: u8_of(values[0]),
-        year: u16_of(values[1]),
-        gwp: u16_of(values[2]),
-        height: u32_of(values[3]),
-        diameter: u32_of(values[4]),
+        method: given.number(0),
+        year: given.number(1),
+        gwp: given.number(2),
+        height: given.number(3),
+        diameter: given.number(4),
         temperature,
         flow,
-        days: u16_of(values[9]),
+        days: given.number(9),
     }
 }
 
-fn site_into(room: &mut [u8], values: [usize; 15], out: &mut [u8], at: usize) -> usize {
-    blank(room);
-    let verdict = writing::write_site(site_of(values), room);
-    let at = put_verdict(out, at, verdict);
-    put_room(out, at, room)
+pub(crate) fn write_site(given: &Given, out: &mut Answers) {
+    let mut space = [BEFORE; LARGEST];
+    let room = &mut space[..given.number::<u16>(10) as usize];
+    put_verdict(out, writing::write_site(site_of(given), room));
+    put_room(out, room);
 }
 
-pub(crate) fn write_site(values: [usize; 15], out: &mut [u8], at: usize) -> usize {
-    let mut space = [0u8; 65_536];
-    let room = u16_of(values[10]) as usize;
-    site_into(&mut space[0..room], values, out, at)
-}
-
-fn gas_of(values: [usize; 15]) -> Gas {
+fn gas_of(given: &Given) -> Gas {
     Gas {
-        ch4: u32_of(values[4]),
-        co: u32_of(values[5]),
-        co2: u32_of(values[6]),
-        o2: u32_of(values[7]),
-        h2: u32_of(values[8]),
-        h2s: u32_of(values[9]),
-        nh3: u32_of(values[10]),
-        n2: u32_of(values[11]),
+        ch4: given.number(4),
+        co: given.number(5),
+        co2: given.number(6),
+        o2: given.number(7),
+        h2: given.number(8),
+        h2s: given.number(9),
+        nh3: given.number(10),
+        n2: given.number(11),
     }
 }
 
-fn minute_of(values: [usize; 15]) -> Minute {
+fn minute_of(given: &Given) -> Minute {
     let exhaust = Readings {
-        oxygen: u32_of(values[12]),
-        methane: u32_of(values[13]),
+        oxygen: given.number(12),
+        methane: given.number(13),
     };
     Minute {
-        number: u32_of(values[0]),
-        flags: u8_of(values[1]),
-        temperature: i16_of(values[2]),
-        litres: u32_of(values[3]),
-        gas: gas_of(values),
+        number: given.number(0),
+        flags: given.number(1),
+        temperature: given.signed(2),
+        litres: given.number(3),
+        gas: gas_of(given),
         exhaust,
     }
 }
 
-fn minute_into(room: &mut [u8], values: [usize; 15], out: &mut [u8], at: usize) -> usize {
-    blank(room);
-    let verdict = writing::write_minute(minute_of(values), room);
-    let at = put_verdict(out, at, verdict);
-    put_room(out, at, room)
-}
-
-pub(crate) fn write_minute(values: [usize; 15], out: &mut [u8], at: usize) -> usize {
-    let mut space = [0u8; 65_536];
-    let room = u16_of(values[14]) as usize;
-    minute_into(&mut space[0..room], values, out, at)
+pub(crate) fn write_minute(given: &Given, out: &mut Answers) {
+    let mut space = [BEFORE; LARGEST];
+    let room = &mut space[..given.number::<u16>(14) as usize];
+    put_verdict(out, writing::write_minute(minute_of(given), room));
+    put_room(out, room);
 }

@@ -1,84 +1,70 @@
 // The calls that read a record: `site`, `minute` and `class`.
-use answers::{answer, put};
-use minute::{Minute, MinuteRead};
-use site::{Site, SiteRead};
+use answers::Answers;
+use minute::Minute;
+use refusals::Refusal;
+use site::Site;
+use std::fmt::Write;
 use tool06::Class;
 
-fn put_site(out: &mut [u8], at: usize, site: Site) -> usize {
+fn put_site(out: &mut Answers, site: Site) {
+    let _ = write!(
+        out,
+        "site method {} year {} gwp {} height {} diameter {}",
+        site.method, site.year, site.gwp, site.height, site.diameter,
+    );
     let temperature = site.temperature;
     let flow = site.flow;
-    let values = [
-        site.method as u64,
-        site.year as u64,
-        site.gwp as u64,
-        site.height as u64,
-        site.diameter as u64,
-        numbers::unsigned(temperature.lowest) as u64,
-        numbers::unsigned(temperature.highest) as u64,
-        flow.lowest as u64,
-        flow.highest as u64,
-        site.days as u64,
-    ];
-    answer(
+    let _ = write!(
         out,
-        at,
-        b"site method %u year %u gwp %u height %u diameter %u temperatures %d %d flows %u %u days %u\n",
-        &values,
-    )
+        " temperatures {} {} flows {} {} days {}\n",
+        temperature.lowest, temperature.highest, flow.lowest, flow.highest, site.days,
+    );
 }
 
-pub(crate) fn site(record: &[u8], out: &mut [u8], at: usize) -> usize {
-    match reading::read_site(record) {
-        SiteRead::Fields(site) => put_site(out, at, site),
-        SiteRead::Refused(refusal) => put::refused(out, at, refusal),
+// What was read, or why it is refused.
+fn put<T: Drop, F: FnOnce(&mut Answers, T)>(out: &mut Answers, read: Result<T, Refusal>, field: F)
+    requires { F.IsAlwaysCallable field }
+{
+    match read {
+        Ok(fields) => field(out, fields),
+        Err(refusal) => out.refused(refusal),
     }
 }
 
-fn put_minute(out: &mut [u8], at: usize, minute: Minute) -> usize {
+pub(crate) fn site(record: &[u8], out: &mut Answers) {
+    put(out, reading::read_site(record), put_site);
+}
+
+fn put_minute(out: &mut Answers, minute: Minute) {
+    let _ = write!(
+        out,
+        "minute {} flags {} temperature {} litres {} gas",
+        minute.number, minute.flags, minute.temperature, minute.litres,
+    );
     let gas = minute.gas;
+    out.each(&[
+        gas.ch4, gas.co, gas.co2, gas.o2, gas.h2, gas.h2s, gas.nh3, gas.n2,
+    ]);
     let exhaust = minute.exhaust;
-    let values = [
-        minute.number as u64,
-        minute.flags as u64,
-        numbers::unsigned(minute.temperature) as u64,
-        minute.litres as u64,
-        gas.ch4 as u64,
-        gas.co as u64,
-        gas.co2 as u64,
-        gas.o2 as u64,
-        gas.h2 as u64,
-        gas.h2s as u64,
-        gas.nh3 as u64,
-        gas.n2 as u64,
-        exhaust.oxygen as u64,
-        exhaust.methane as u64,
-    ];
-    answer(
-        out,
-        at,
-        b"minute %u flags %u temperature %d litres %u gas %u %u %u %u %u %u %u %u exhaust %u %u\n",
-        &values,
-    )
+    let _ = write!(out, " exhaust {} {}\n", exhaust.oxygen, exhaust.methane);
 }
 
-pub(crate) fn minute(record: &[u8], out: &mut [u8], at: usize) -> usize {
-    match reading::read_minute(record) {
-        MinuteRead::Fields(minute) => put_minute(out, at, minute),
-        MinuteRead::Refused(refusal) => put::refused(out, at, refusal),
-    }
+pub(crate) fn minute(record: &[u8], out: &mut Answers) {
+    put(out, reading::read_minute(record), put_minute);
 }
 
-fn put_class(out: &mut [u8], at: usize, class: Class) -> usize {
+fn put_class(out: &mut Answers, class: Class) {
     match class {
-        Class::Open => put::text(out, at, b"open\n"),
-        Class::Low => put::text(out, at, b"low\n"),
-        Class::Tall => put::text(out, at, b"tall\n"),
+        Class::Open => out.text(b"open\n"),
+        Class::Low => out.text(b"low\n"),
+        Class::Tall => out.text(b"tall\n"),
     }
 }
 
-pub(crate) fn class(record: &[u8], out: &mut [u8], at: usize) -> usize {
-    match reading::read_site(record) {
-        SiteRead::Fields(site) => put_class(out, at, rules::class_of(site)),
-        SiteRead::Refused(refusal) => put::refused(out, at, refusal),
-    }
+pub(crate) fn class(record: &[u8], out: &mut Answers) {
+    put(
+        out,
+        reading::read_site(record).map(|site| rules::class_of(site)),
+        put_class,
+    );
 }

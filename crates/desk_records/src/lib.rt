@@ -5,25 +5,18 @@ pub mod buffers;
 mod fields;
 mod runs;
 
-use forms::call::{CLASS, MINUTE, PART, SITE, WRITE_MINUTE, WRITE_SITE};
-use forms::take::{part, u32_of};
+use answers::Answers;
+use forms::call::RecordCall;
+use forms::take::Given;
 
 // What such a call answers; the bytes have the record that its line spells.
-pub fn of_records(
-    call: usize,
-    values: [usize; 15],
-    bytes: &[u8],
-    out: &mut [u8],
-    at: usize,
-) -> usize {
-    let record = part(bytes, 0, values[0]);
+pub fn of_records(call: RecordCall, given: &Given, out: &mut Answers) {
     match call {
-        SITE => fields::site(record, out, at),
-        MINUTE => fields::minute(record, out, at),
-        CLASS => fields::class(record, out, at),
-        WRITE_SITE => buffers::write_site(values, out, at),
-        WRITE_MINUTE => buffers::write_minute(values, out, at),
-        PART => runs::part(u32_of(values[0]), part(bytes, 0, values[1]), out, at),
-        _ => at,
+        RecordCall::Site => fields::site(given.bytes(0), out),
+        RecordCall::Minute => fields::minute(given.bytes(0), out),
+        RecordCall::Class => fields::class(given.bytes(0), out),
+        RecordCall::WriteSite => buffers::write_site(given, out),
+        RecordCall::WriteMinute => buffers::write_minute(given, out),
+        RecordCall::Part => runs::part(given.number(0), given.bytes(1), out),
     }
 }

@@ -3,46 +3,47 @@
 
 ghost use Rattle.account.specs.Kept.{Kept};
 
-use account::{Account, Closed};
-use answers::{answer, put};
-use by_month::Asked;
+use account::Account;
+use answers::Answers;
 
-pub fn month(account: Account, month: u32, out: &mut [u8], at: usize) -> usize
+pub fn month(account: Account, month: u32, out: &mut Answers)
     requires { Kept account }
 {
     match by_month::month(account, month) {
-        Asked::Is(_) => month_line::put_month(out, at, account, month),
-        Asked::Refused(refusal) => put::refused(out, at, refusal),
+        Ok(_) => month_line::put_month(&mut out.page, account, month),
+        Err(refusal) => out.refused(refusal),
     }
 }
 
-pub fn counts(account: Account, out: &mut [u8], at: usize) -> usize
+pub fn counts(account: Account, out: &mut Answers)
     requires { Kept account }
 {
-    let counts = account.counts();
-    let at = put::text(out, at, b"counts");
-    let at = put::each(out, at, &counts);
-    put::end(out, at)
+    out.text(b"counts");
+    out.each(&account.counts());
+    out.text(b"\n");
 }
 
-pub fn close(account: Account, out: &mut [u8], at: usize) -> usize
+pub fn close(account: Account, out: &mut Answers)
     requires { Kept account }
 {
     match account.close() {
-        Closed::Tonnes(_) => sheet::put_year(out, at, account),
-        Closed::Refused(refusal) => put::refused(out, at, refusal),
+        Ok(_) => sheet::put_year(&mut out.page, account),
+        Err(refusal) => out.refused(refusal),
     }
 }
 
 // What is no number is unlike itself; a chart point never is one.
 fn bits_of(x: f64) -> u64 {
-    if x == x { f64::to_bits(x) } else { 0 }
+    if x == x { x.to_bits() } else { 0 }
 }
 
-pub fn chart(account: Account, out: &mut [u8], at: usize) -> usize
+pub fn chart(account: Account, out: &mut Answers)
     requires { Kept account }
 {
     let point = account.chart();
-    let values = [bits_of(point.fed), bits_of(point.co2e)];
-    answer(out, at, b"chart %x %x\n", &values)
+    out.text(b"chart ");
+    out.bits(bits_of(point.fed));
+    out.text(b" ");
+    out.bits(bits_of(point.co2e));
+    out.text(b"\n");
 }

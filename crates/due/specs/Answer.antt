@@ -1,5 +1,7 @@
 -- R55, R56: "Adding a minute: 11, 1, 2, 12 to 19": what a record is answered.
-use Rattle.std.specs.Prelude.{ℕ, ◌/◌, Bool, not, List, ◌∷◌, ◌++◌, leb, eqb}
+use Rattle.tool06.specs.declared.figures.Figures.{Figures}
+use Rattle.refusals.specs.declared.refusal.Refusal.{Refusal}
+use Rattle.std.specs.Prelude.{Result, ℕ, ◌/◌, Bool, not, List, ◌∷◌, ◌++◌, leb, eqb}
 use Rattle.refusals.specs.Tables.{Line, when, first_of}
 use Rattle.refusals.specs.declared.refusal.Refusal.TheVariants.{Full}
 use Rattle.records.specs.House.{answered}
@@ -10,8 +12,6 @@ use Rattle.maintenance.specs.Days.{in_time, listed_days}
 use Rattle.tool06.specs.Bounds.{Entry, figures_of}
 use Rattle.tool06.specs.Judged.{judged_lines}
 use Rattle.tool06.specs.Tool.{Masses}
-use Rattle.tool06.specs.declared.figures.Judged.{Judged}
-use Rattle.tool06.specs.declared.figures.Judged.TheVariants.{Accepted, Refused}
 use Rattle.due.specs.declared.Due.{Due}
 
 -- R48, R51: 11, "the year's last minute is already in"
@@ -39,5 +39,5 @@ unfoldable pub add_lines : Due → List ℕ → List Line
 add_lines d b = record_lines d b ++ judged_lines (not_next d (minute_of b)) d.site (minute_of b)
 
 -- R56: the minute's figures and rule, or the refusal
-unfoldable pub answer : Masses → Due → List ℕ → Judged
-answer m d b = answered Accepted Refused (figures_of m (entry d b)) (first_of (add_lines d b))
+unfoldable pub answer : Masses → Due → List ℕ → Result Figures Refusal
+answer m d b = answered (figures_of m (entry d b)) (first_of (add_lines d b))

@@ -11,7 +11,7 @@ use maintenance::Maintenance;
 use minute::Minute;
 use refusals::{Refusal, Verdict};
 use site::Site;
-use tool06::Judged;
+use tool06::Figures;
 
 // The flare's site and its maintenance list, and the minute of the year that is expected.
 #[derive(Clone, Copy)]
@@ -43,20 +43,15 @@ impl Due {
     }
 
     // The minute's figures and rule, or the first of the refusals 11, 1, 2 and 12 to 19.
-    pub fn answer(self, bytes: &[u8]) -> Judged
+    pub fn answer(self, bytes: &[u8]) -> Result<Figures, Refusal>
         requires examined { Examined self.site }
         requires kept_list { KeptList self.maintenance }
         ensures { (m : Masses) → Positive m → result ≡ answer m self bytes.now }
     {
         let head = records::head(bytes, Minute::BYTES, Minute::VERSION);
-        let verdict = Verdict::Fine.also(self.is_full(), Refusal::Full).then(head);
-        match verdict {
-            Verdict::Refuse(r) => Judged::Refused(r),
-            Verdict::Fine => {
-                let minute = reading::minute_in(bytes);
-                let in_time = self.in_time(minute.number);
-                judge::judge(self.site, minute, minute.number != self.minute, in_time)
-            }
-        }
+        Ok(()).also(self.is_full(), Refusal::Full).then(head)?;
+        let minute = reading::minute_in(bytes);
+        let in_time = self.in_time(minute.number);
+        judge::judge(self.site, minute, minute.number != self.minute, in_time)
     }
 }

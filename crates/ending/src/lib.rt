@@ -1,31 +1,30 @@
 // The text that a program ends with: the total and the year, or the one line of a refused site.
 #![tactic(auto)]
 
-ghost use Rattle.std.specs.Prelude.{◌≡◌, ◌+◌, ◌≤◌, length};
-ghost use Rattle.exact.specs.Bytes.{put};
+ghost use Rattle.std.specs.Prelude.{◌+◌, ◌≤◌, length};
 ghost use Rattle.account.specs.Kept.{Kept};
-ghost use Rattle.text.specs.Places.{PutFrom};
+ghost use Rattle.text.specs.Places.{Puts};
 ghost use Rattle.lines.specs.Lines.{site_line};
 ghost use Rattle.ending.specs.Ending.{ending};
 
 use account::Account;
 use refusals::Refusal;
+use text::Page;
 
-// Answers the place after it.
-pub fn put_ending(out: &mut [u8], at: usize, account: Account) -> usize
+pub fn put_ending(page: &mut Page, account: Account)
     requires kept { Kept account }
-    requires at_in_bounds { at + 326 ≤ length out.old }
-    ensures put_from { PutFrom out.old at (ending account) out.new result }
-    ensures within { result ≤ at + 326 }
+    requires at_in_bounds { page.old.at + 326 ≤ length page.old.buffer.now }
+    ensures put_from { Puts page.old (ending account) page.new }
+    ensures within { page.new.at ≤ page.old.at + 326 }
 {
-    let total = sheet::put_total(out, at, account);
-    sheet::put_year(out, total, account)
+    sheet::put_total(page, account);
+    sheet::put_year(page, account);
 }
 
-// Answers how many bytes it put.
-pub fn put_refused_site(out: &mut [u8], refusal: Refusal) -> usize
-    requires { length out.old ≡ 65536 }
-    ensures { (result ≡ length (site_line refusal)) × (out.new ≡ put out.old 0 (site_line refusal)) }
+pub fn put_refused_site(page: &mut Page, refusal: Refusal)
+    requires { page.old.at + 163 ≤ length page.old.buffer.now }
+    ensures put_from { Puts page.old (site_line refusal) page.new }
+    ensures within { page.new.at ≤ page.old.at + 163 }
 {
-    lines::put_site(out, 0, refusal)
+    lines::put_site(page, refusal);
 }

@@ -1,127 +1,203 @@
-// The calls, a row each, and the words that they take.
-ghost use Rattle.std.specs.Prelude.{◌≤◌, length};
+// The calls, and the form of each.
+ghost use Rattle.std.specs.Prelude.{◌≡◌, IfSome};
 
-use crate::take::{Taken, part, take};
-use answers::{LINE_END, end_of};
+use crate::word::{Kind, Word};
+use std::fmt;
 
-// Of each call its name, a letter for the kind of each of its words, and what its form has after the name.
-pub(crate) fn rows() -> [u8; 394] {
-    *b"site x HEX
-minute x HEX
-write-site 12244ss4422 METHOD YEAR GWP HEIGHT DIAMETER LOWEST HIGHEST LOWEST HIGHEST DAYS ROOM
-write-minute 41s444444444442 NUMBER FLAGS TEMPERATURE LITRES CH4 CO CO2 O2 H2 H2S NH3 N2 OXYGEN METHANE ROOM
-class x HEX
-open x HEX [days DAY ..]
-add x HEX
-fill 4x COUNT HEX
-check x HEX
-part 4x DAY HEX
-total
-month 4 MONTH
-counts
-close
-chart
-single xy22 SITE MINUTE DAYS ROOM
-"
+#[derive(Clone, Copy, PartialEq, Eq, Debug)]
+pub enum Call {
+    Record(RecordCall),
+    Single,
+    Open,
+    Add,
+    Fill,
+    Ask(Question),
 }
 
-// The number of each call is that of its row.
-pub const SITE: usize = 0;
+// The calls that need no account.
+#[derive(Clone, Copy, PartialEq, Eq, Debug)]
+pub enum RecordCall {
+    Site,
+    Minute,
+    WriteSite,
+    WriteMinute,
+    Class,
+    Part,
+}
 
-pub const MINUTE: usize = 1;
+// The calls that leave the account as it is.
+#[derive(Clone, Copy, PartialEq, Eq, Debug)]
+pub enum Question {
+    Check,
+    Total,
+    Month,
+    Counts,
+    Close,
+    Chart,
+}
 
-pub const WRITE_SITE: usize = 2;
-
-pub const WRITE_MINUTE: usize = 3;
-
-pub const CLASS: usize = 4;
-
-pub const OPEN: usize = 5;
-
-pub const ADD: usize = 6;
-
-pub const FILL: usize = 7;
-
-pub const CHECK: usize = 8;
-
-pub const PART: usize = 9;
-
-pub const TOTAL: usize = 10;
-
-pub const MONTH: usize = 11;
-
-pub const COUNTS: usize = 12;
-
-pub const CLOSE: usize = 13;
-
-pub const CHART: usize = 14;
-
-pub const SINGLE: usize = 15;
-
-// A name that no call has.
-pub const NONE: usize = 16;
-
-// A call, and where its row stands.
+// A call with its name, its words, and what its form has behind them.
 #[derive(Clone, Copy)]
-pub struct Call {
-    pub number: usize,
-    pub(crate) from: usize,
-    pub(crate) length: usize,
+pub struct Form {
+    pub call: Call,
+    pub name: &'static str,
+    pub words: &'static [Word],
+    list: &'static str,
 }
 
-pub(crate) fn name_in(row: &[u8]) -> &[u8] {
-    let end = words::end_of_word(row, 0);
-    &row[0..end]
-}
-
-fn find(rows: &[u8], name: &[u8]) -> Call {
-    let mut from: usize = 0;
-    let mut number: usize = 0;
-    while from < rows.len() {
-        let end = end_of(rows, from, LINE_END);
-        if name == name_in(&rows[from..end]) {
-            return Call {
-                number,
-                from,
-                length: end - from,
-            };
+impl fmt::Display for Form {
+    fn fmt<W: fmt::Write>(&self, f: &mut fmt::Formatter<W>) -> fmt::Result {
+        write!(f, "{}", self.name)?;
+        for Word(name, _) in self.words {
+            write!(f, " {name}")?;
         }
-        from = end + 1;
-        number = number + 1;
-    }
-    Call {
-        number: NONE,
-        from: 0,
-        length: 0,
+        write!(f, "{}", self.list)
     }
 }
 
-pub fn call_of(name: &[u8]) -> Call {
-    let rows = rows();
-    find(&rows, name)
-}
+const HEX: &[Word] = &[Word("HEX", Kind::Hex)];
 
-// The word of a row at a place after its name.
-pub(crate) fn word_in(row: &[u8], place: usize) -> &[u8] {
-    let mut end = words::end_of_word(row, 0);
-    let mut left = place;
-    while end < row.len() {
-        let from = end + 1;
-        end = words::end_of_word(row, from);
-        if left == 0 {
-            return &row[from..end];
-        }
-        left = left - 1;
-    }
-    &row[0..0]
-}
+// A word of the list of an `open`, which may be as long as the line.
+pub const DAY: Word = Word("DAY", Kind::Signed);
 
-// Takes the words of a call from where its name ends.
-pub fn words_of(call: Call, line: &[u8], end: usize, bytes: &mut [u8]) -> Taken
-    requires { end ≤ length line.now }
-    ensures { result.end ≤ length line.now }
+pub(crate) const FORMS: [Form; 16] = [
+    Form {
+        call: Call::Record(RecordCall::Site),
+        name: "site",
+        words: HEX,
+        list: "",
+    },
+    Form {
+        call: Call::Record(RecordCall::Minute),
+        name: "minute",
+        words: HEX,
+        list: "",
+    },
+    Form {
+        call: Call::Record(RecordCall::WriteSite),
+        name: "write-site",
+        words: &[
+            Word("METHOD", Kind::Byte),
+            Word("YEAR", Kind::Word),
+            Word("GWP", Kind::Word),
+            Word("HEIGHT", Kind::Long),
+            Word("DIAMETER", Kind::Long),
+            Word("LOWEST", Kind::Signed),
+            Word("HIGHEST", Kind::Signed),
+            Word("LOWEST", Kind::Long),
+            Word("HIGHEST", Kind::Long),
+            Word("DAYS", Kind::Word),
+            Word("ROOM", Kind::Word),
+        ],
+        list: "",
+    },
+    Form {
+        call: Call::Record(RecordCall::WriteMinute),
+        name: "write-minute",
+        words: &[
+            Word("NUMBER", Kind::Long),
+            Word("FLAGS", Kind::Byte),
+            Word("TEMPERATURE", Kind::Signed),
+            Word("LITRES", Kind::Long),
+            Word("CH4", Kind::Long),
+            Word("CO", Kind::Long),
+            Word("CO2", Kind::Long),
+            Word("O2", Kind::Long),
+            Word("H2", Kind::Long),
+            Word("H2S", Kind::Long),
+            Word("NH3", Kind::Long),
+            Word("N2", Kind::Long),
+            Word("OXYGEN", Kind::Long),
+            Word("METHANE", Kind::Long),
+            Word("ROOM", Kind::Word),
+        ],
+        list: "",
+    },
+    Form {
+        call: Call::Record(RecordCall::Class),
+        name: "class",
+        words: HEX,
+        list: "",
+    },
+    Form {
+        call: Call::Open,
+        name: "open",
+        words: HEX,
+        list: " [days DAY ..]",
+    },
+    Form {
+        call: Call::Add,
+        name: "add",
+        words: HEX,
+        list: "",
+    },
+    Form {
+        call: Call::Fill,
+        name: "fill",
+        words: &[Word("COUNT", Kind::Long), Word("HEX", Kind::Hex)],
+        list: "",
+    },
+    Form {
+        call: Call::Ask(Question::Check),
+        name: "check",
+        words: HEX,
+        list: "",
+    },
+    Form {
+        call: Call::Record(RecordCall::Part),
+        name: "part",
+        words: &[Word("DAY", Kind::Long), Word("HEX", Kind::Hex)],
+        list: "",
+    },
+    Form {
+        call: Call::Ask(Question::Total),
+        name: "total",
+        words: &[],
+        list: "",
+    },
+    Form {
+        call: Call::Ask(Question::Month),
+        name: "month",
+        words: &[Word("MONTH", Kind::Long)],
+        list: "",
+    },
+    Form {
+        call: Call::Ask(Question::Counts),
+        name: "counts",
+        words: &[],
+        list: "",
+    },
+    Form {
+        call: Call::Ask(Question::Close),
+        name: "close",
+        words: &[],
+        list: "",
+    },
+    Form {
+        call: Call::Ask(Question::Chart),
+        name: "chart",
+        words: &[],
+        list: "",
+    },
+    Form {
+        call: Call::Single,
+        name: "single",
+        words: &[
+            Word("SITE", Kind::Hex),
+            Word("MINUTE", Kind::Second),
+            Word("DAYS", Kind::Word),
+            Word("ROOM", Kind::Word),
+        ],
+        list: "",
+    },
+];
+
+// The form of the call that has a name.
+pub fn form_of(name: &[u8]) -> Option<Form>
+    ensures { IfSome result (λ form. form.name.now ≡ name.now) }
 {
-    let rows = rows();
-    let row = part(&rows, call.from, call.length);
-    take(line, end, word_in(row, 0), bytes)
+    FORMS
+        .iter()
+        .find(|form| form.name.as_bytes() == name)
+        .copied()
 }

@@ -4,3 +4,4 @@
 pub mod call;
 pub mod expected;
 pub mod take;
+pub mod word;

@@ -1,140 +1,93 @@
 // Taking the words of a call from its line.
-ghost use Rattle.std.specs.Prelude.{◌≤◌, length};
+ghost use Rattle.std.specs.Prelude.{◌≤◌, length, IfOk};
 
-use words::Number;
+use crate::word::{Kind, Word, next_word};
 
-// The kinds of words: a number of one or two bytes and, by any other letter, of four; one of two bytes with a sign; bytes in hexadecimal.
-const BYTE: u8 = 49;
+// Where the bytes of a second record stand.
+const SECOND_AT: usize = 160_000;
 
-const WORD: u8 = 50;
-
-pub const SIGNED: u8 = 115;
-
-pub(crate) const HEX: u8 = 120;
-
-// The bytes of a second record stand apart from the first one's.
-pub(crate) const SECOND: u8 = 121;
-
-pub const SECOND_AT: usize = 160_000;
-
-// No call has more words.
-const MOST: usize = 15;
-
-// Whether the words are as the call's form has them: a word is missing or left over, or the one at a place of the call's row is not of its kind.
-#[derive(Clone, Copy)]
-pub enum Fit {
-    Fits,
+// How the words are not as the call's form has them: one is missing or left over, or one is not of its kind.
+#[derive(Clone, Copy, PartialEq, Eq, Debug)]
+pub enum Misfit {
     Form,
-    Wrong { place: usize, kind: u8 },
+    Wrong(Word),
 }
 
-// Numbers as they are, in two's complement where they have a sign, and for bytes how many there are; and where the last word ends.
-#[derive(Clone, Copy)]
-pub struct Taken {
-    pub values: [usize; 15],
-    pub end: usize,
-    pub fit: Fit,
+// What a line gives to its call: a number for each of its words, in two's complement where it has a sign, and for bytes how many there are; and the bytes that they spell. No call has more words; of more, the first so many are taken.
+#[derive(Drop)]
+pub struct Given<'b> {
+    numbers: [u32; 15],
+    bytes: &'b mut [u8],
 }
 
-#[derive(Clone, Copy)]
-enum Value {
-    Is(usize),
-    Wrong,
-}
+impl Given<'_> {
+    // The number of the word at a place, 0 where it is none of this type.
+    pub fn number<N: TryFrom<u32> + Default + Drop>(&self, place: usize) -> N
+    where
+        <N as TryFrom<u32>>::Error: Drop,
+    {
+        N::try_from(self.numbers.get(place).copied().unwrap_or(0)).unwrap_or_default()
+    }
 
-fn of_number(number: Number) -> Value {
-    match number {
-        Number::Is(n) => Value::Is(n as usize),
-        Number::Wrong => Value::Wrong,
+    pub fn signed(&self, place: usize) -> i16 {
+        self.number::<u16>(place).cast_signed()
+    }
+
+    fn count(&self, place: usize) -> usize {
+        self.number::<u32>(place) as usize
+    }
+
+    // The bytes of the word at a place.
+    pub fn bytes(&self, place: usize) -> &[u8] {
+        self.bytes.get(..self.count(place)).unwrap_or(&[])
+    }
+
+    pub fn bytes_mut(&mut self, place: usize) -> &mut [u8] {
+        let count = self.count(place).min(self.bytes.len());
+        &mut self.bytes[..count]
+    }
+
+    // The bytes of the word at a place, where they are a second record's.
+    pub fn second(&self, place: usize) -> &[u8] {
+        let end = SECOND_AT.saturating_add(self.count(place));
+        self.bytes.get(SECOND_AT..end).unwrap_or(&[])
     }
 }
 
 // The bytes that a word spells, put from a place on.
-fn of_hex(word: &[u8], bytes: &mut [u8], at: usize) -> Value {
-    if at <= bytes.len() {
-        if words::put_bytes(word, &mut bytes[at..]) {
-            return Value::Is(word.len() / 2);
-        }
+fn count_of(word: &[u8], bytes: &mut [u8], from: usize) -> Option<u32> {
+    if words::put_bytes(word, bytes.get_mut(from..)?) {
+        u32::try_from(word.len() / 2).ok()
+    } else {
+        None
     }
-    Value::Wrong
 }
 
-// The most that a number without a sign may be.
-pub(crate) fn most_of(kind: u8) -> u32 {
+fn number_of(word: &[u8], kind: Kind, bytes: &mut [u8]) -> Option<u32> {
     match kind {
-        BYTE => 255,
-        WORD => 65_535,
-        _ => 4_294_967_295,
+        Kind::Byte => words::number_in(word, u8::MAX as u32),
+        Kind::Word => words::number_in(word, u16::MAX as u32),
+        Kind::Long => words::number_in(word, u32::MAX),
+        Kind::Signed => words::signed_in(word),
+        Kind::Hex => count_of(word, bytes, 0),
+        Kind::Second => count_of(word, bytes, SECOND_AT),
     }
 }
 
-fn value_of(word: &[u8], kind: u8, bytes: &mut [u8]) -> Value {
-    match kind {
-        HEX => of_hex(word, bytes, 0),
-        SECOND => of_hex(word, bytes, SECOND_AT),
-        SIGNED => of_number(words::signed_in(word)),
-        _ => of_number(words::number_in(word, most_of(kind))),
-    }
-}
-
-// Takes a word of each kind in turn, from where the last word ends.
-pub fn take(line: &[u8], end: usize, kinds: &[u8], bytes: &mut [u8]) -> Taken
-    requires { end ≤ length line.now }
-    ensures { result.end ≤ length line.now }
+// Takes these words in turn from what is left of a line behind its name, and answers what is left behind them.
+pub fn take<'l, 'b>(
+    words: &[Word],
+    line: &'l [u8],
+    bytes: &'b mut [u8],
+) -> Result<(Given<'b>, &'l [u8]), Misfit>
+    ensures { IfOk result (λ taken. length taken.1.now ≤ length line.now) }
 {
-    let mut values = [0usize; 15];
-    let mut end = end;
-    let mut place: usize = 0;
-    while place < kinds.len() {
-        if line.len() <= end {
-            return Taken {
-                values,
-                end,
-                fit: Fit::Form,
-            };
-        }
-        let from = end + 1;
-        end = words::end_of_word(line, from);
-        let kind = kinds[place];
-        match value_of(&line[from..end], kind, bytes) {
-            Value::Wrong => return Taken {
-                values,
-                end,
-                fit: Fit::Wrong {
-                    place: place + 1,
-                    kind,
-                },
-            },
-            Value::Is(value) => {
-                if place < MOST {
-                    values[place] = value;
-                }
-            }
-        }
-        place = place + 1;
+    let mut numbers = [0; 15];
+    let mut rest = line;
+    for (number, word) in numbers.iter_mut().zip(words) {
+        let (text, left) = next_word(rest).ok_or(Misfit::Form)?;
+        *number = number_of(text, word.1, bytes).ok_or(Misfit::Wrong(*word))?;
+        rest = left;
     }
-    Taken {
-        values,
-        end,
-        fit: Fit::Fits,
-    }
-}
-
-// A value that was taken as a number of two bytes, or of four.
-pub fn u16_of(value: usize) -> u16 {
-    (value % 65_536) as u16
-}
-
-pub fn u32_of(value: usize) -> u32 {
-    (value % 4_294_967_296) as u32
-}
-
-// A part of the bytes, or none where they do not have it.
-pub fn part(bytes: &[u8], from: usize, count: usize) -> &[u8] {
-    if from <= bytes.len() {
-        if count <= bytes.len() - from {
-            return &bytes[from..from + count];
-        }
-    }
-    &bytes[0..0]
+    Ok((Given { numbers, bytes }, rest))
 }

@@ -18,22 +18,22 @@ use Rattle.due.specs.Answer.{entry}
 use Rattle.account.specs.Adding.{due, worth, with_minute}
 use Rattle.account.specs.Closing.{co2e}
 use Rattle.account.specs.Kept.{Kept}
-use Rattle.account.specs.Opening.{fresh, opened}
+use Rattle.account.specs.Opening.{fresh}
 use Rattle.account.specs.declared.Account.{Account}
 use Rattle.due.proofs.Taken.{room}
 use Rattle.account.proofs.Accepted.{worth_is, small}
-use Rattle.account.proofs.Laws.{minutes_one, kept_with, only-opened}
+use Rattle.account.proofs.Laws.{minutes_one, kept_with, fresh_kept}
 use Rattle.history.specs.Promises.{Holds, OfEvery, EveryKept}
 use Rattle.history.proofs.Calls.{every}
 
 pub every_kept : EveryKept
 every_kept m pos s days a es =
-    every m s days (λ a es. Kept a) (only-opened s days).1
+    every m s days (λ a es. Kept a) (fresh_kept s days)
     (λ a es r kept bytes t. kept_with kept (small m pos (entry (due a) bytes) t.entry-accepted) (room t))
 
 module _ (m : Masses) where
-  opened-holds : (s : Site) (days : List ℤ) → Holds m (opened s days).account []
-  unfolding opened fresh co2e no_sums
+  opened-holds : (s : Site) (days : List ℤ) → Holds m (fresh s days) []
+  unfolding fresh co2e no_sums
   opened-holds s days = record {
     minutes_are = refl;
     sums_are = refl;

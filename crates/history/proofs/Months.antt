@@ -19,7 +19,7 @@ use Rattle.tool06.proofs.Sums.{bounds_of_any}
 use Rattle.due.specs.Answer.{entry}
 use Rattle.due.proofs.Taken.{room}
 use Rattle.account.specs.Adding.{due, worth, month_due, with_minute}
-use Rattle.account.specs.Opening.{fresh, opened}
+use Rattle.account.specs.Opening.{fresh}
 use Rattle.account.specs.declared.Account.{Account}
 use Rattle.account.proofs.Accepted.{worth_is}
 use Rattle.account.proofs.Laws.{month-due}
@@ -52,8 +52,8 @@ module _ (m : Masses) where
   abbrev Rows : Account → List Entry → Type 0
   Rows a es = OfEachMonth (λ k. row_of a.rows k ≡ total (worth_of m) (of_month k es))
 
-  opened_rows : (s : Site) (days : _) → Rows (opened s days).account []
-  unfolding opened fresh
+  opened_rows : (s : Site) (days : _) → Rows (fresh s days) []
+  unfolding fresh
   opened_rows s days k one most = no_row k
 
 pub rows_are : RowsAre

@@ -1,15 +1,14 @@
 -- The promises of Promises.antt.
+use Rattle.std.specs.Prelude.{Result, Ok, Err}
+use Rattle.refusals.specs.declared.refusal.Refusal.{Refusal}
 use mathlib.Core.Path.{◌≡◌, refl, ap}
 use mathlib.Core.List.{List}
 use Prim.Native.Nat.{ℕ}
 use Rattle.refusals.specs.Tables.{first_of}
-use Rattle.refusals.specs.declared.verdict.Verdict.{Verdict}
-use Rattle.refusals.specs.declared.verdict.Verdict.TheVariants.{Fine, Refuse}
 use Rattle.records.specs.House.{answered}
 use Rattle.site.specs.Rules.{Examined}
 use Rattle.tool06.specs.Bounds.{figures_of}
 use Rattle.tool06.specs.Tool.{Masses, Positive, by_equation_7}
-use Rattle.tool06.specs.declared.figures.Judged.TheVariants.{Accepted, Refused}
 use Rattle.tool06.proofs.Kept.{equation_seven}
 use Rattle.tool06.proofs.Sums.{bounds_of_any, masses_cancel}
 use Rattle.due.specs.Answer.{entry, add_lines, answer}
@@ -35,10 +34,10 @@ same_answer : (m m' : Masses) → Positive m → Positive m' → (a : Account) �
 unfolding answer
 same_answer m m' pos pos' a examined bytes = by-verdict (first_of (add_lines (due a) bytes)) refl
   where
-    by-verdict : (v : Verdict) → first_of (add_lines (due a) bytes) ≡ v → answered Accepted Refused (figures_of m (entry (due a) bytes)) v ≡ answered Accepted Refused (figures_of m' (entry (due a) bytes)) v
-    by-verdict Fine fine =
-        ap Accepted (masses_cancel m m' pos pos' (entry (due a) bytes) (taken m (due a) examined bytes (figures_of m (entry (due a) bytes)) (rw fine refl)).entry-accepted).2
-    by-verdict (Refuse r) refused = refl
+    by-verdict : (v : Result Unit Refusal) → first_of (add_lines (due a) bytes) ≡ v → answered (figures_of m (entry (due a) bytes)) v ≡ answered (figures_of m' (entry (due a) bytes)) v
+    by-verdict (Ok tt) fine =
+        ap Ok (masses_cancel m m' pos pos' (entry (due a) bytes) (taken m (due a) examined bytes (figures_of m (entry (due a) bytes)) (rw fine refl)).entry-accepted).2
+    by-verdict (Err r) refused = refl
 
 pub by_any_masses : ByAnyMasses
 unfolding add_to

@@ -1,4 +1,5 @@
 -- CO2 equivalent and the tonnes beside equation (15).
+use Rattle.std.specs.Prelude.{Ok}
 use Prim.Native.Nat.{ℕ, zero, suc, ◌*◌, ◌≤◌, ◌<◌}
 use mathlib.Core.Path.{◌≡◌, refl, sym, ap, subst, ◌∙◌}
 use mathlib.Core.Bool.{Bool, true, false}
@@ -24,7 +25,6 @@ use Rattle.due.specs.Answer.{is_full}
 use Rattle.account.specs.Adding.{due}
 use Rattle.account.specs.Closing.{co2e, closing}
 use Rattle.account.specs.declared.Account.{Account}
-use Rattle.account.specs.declared.close.Closed.TheVariants.{Tonnes}
 use Rattle.history.specs.Year.{Equation15}
 use Rattle.history.proofs.Calls.{reached_examined}
 use Rattle.history.proofs.Opening.{opened_stays}
@@ -42,7 +42,7 @@ unfolding site_lines
 gwp_least s fine = ltb-false s.gwp 1 (or_false (ltb s.gwp 1) (ltb 100 s.gwp) (none (site_lines s) fine).1.1.0).0
 
 -- closing gives tonnes only where it gives these
-tonnes_are : (a : Account) (t : ℕ) → closing a ≡ Tonnes t → t ≡ ceil_div (co2e a) 1000000000
+tonnes_are : (a : Account) (t : ℕ) → closing a ≡ Ok t → t ≡ ceil_div (co2e a) 1000000000
 unfolding closing
 tonnes_are a t e = by_full (is_full (due a)) refl
   where
@@ -104,7 +104,7 @@ module _ (PE : Frac) (x : Exact) (g : ℕ) (a : Account) (gwp-is : a.site.gwp �
       let h = ⊗-mono (whole (co2e a)) (PE ⊗ whole 1000000000 ⊕ whole (g * a.sums.gas)) (inv (whole 1000000000)) (≺-≼ _ _ per_tonne) at_most_lem in
       subst (λ (z : Frac). X ≼ z) (⊕-⊗ (PE ⊗ whole 1000000000) (whole (g * a.sums.gas)) (inv (whole 1000000000)) ∙ ap (λ (z : Frac). z ⊕ whole (g * a.sums.gas) ⊗ inv (whole 1000000000)) (back_again PE)) h
 
-  module _ (t : ℕ) (e : closing a ≡ Tonnes t) where
+  module _ (t : ℕ) (e : closing a ≡ Ok t) where
     t_is : round_up X ≡ t
     t_is = up_ratio (co2e a) 1000000000 (omega arith) ∙ sym (tonnes_are a t e)
 

@@ -1,14 +1,13 @@
 -- R59: every account that any calls can give, with the minutes accepted so far.
-use Rattle.std.specs.Prelude.{◌≡◌, List, [], ◌∷◌, ◌++◌, ℕ, ℤ}
-use Rattle.refusals.specs.declared.verdict.Verdict.TheVariants.{Fine}
+use Rattle.tool06.specs.declared.figures.Figures.{Figures}
+use Rattle.refusals.specs.declared.refusal.Refusal.{Refusal}
+use Rattle.std.specs.Prelude.{Result, Ok, Err, ◌≡◌, List, [], ◌∷◌, ◌++◌, ℕ, ℤ}
 use Rattle.site.specs.declared.Site.{Site}
 use Rattle.tool06.specs.Bounds.{Entry}
 use Rattle.tool06.specs.Tool.{Masses}
-use Rattle.tool06.specs.declared.figures.Judged.{Judged}
-use Rattle.tool06.specs.declared.figures.Judged.TheVariants.{Accepted, Refused}
 use Rattle.due.specs.Answer.{entry, answer}
 use Rattle.account.specs.Adding.{due, add_to}
-use Rattle.account.specs.Opening.{opened}
+use Rattle.account.specs.Opening.{fresh, opened}
 use Rattle.account.specs.declared.Account.{Account}
 
 -- R59: the calls that take an account, with the bytes lent to them or the month asked for; reading one of its numbers gives no account and needs no place here
@@ -27,9 +26,9 @@ account_after m a co2e = a
 account_after m a (month k) = a
 
 -- R59: one minute more, where it is accepted
-abbrev pub grown : List Entry → Entry → Judged → List Entry
-grown es e (Accepted f) = es ++ (e ∷ [])
-grown es e (Refused r) = es
+abbrev pub grown : List Entry → Entry → Result Figures Refusal → List Entry
+grown es e (Ok f) = es ++ (e ∷ [])
+grown es e (Err r) = es
 
 -- R59: the minutes accepted, after a call
 abbrev pub minutes_after : Masses → Account → List Entry → Call → List Entry
@@ -42,5 +41,5 @@ minutes_after m a es (month k) = es
 
 -- R59: the account after an opening with this site and this list that was not refused, and any calls; and the minutes accepted, in their order
 pub data Reached (m : Masses) (s : Site) (days : List ℤ) : Account → List Entry → Type 0 where
-  at_first : (opened s days).verdict ≡ Fine → Reached m s days (opened s days).account []
+  at_first : opened s days ≡ Ok (fresh s days) → Reached m s days (fresh s days) []
   then : {a : Account} {es : List Entry} → Reached m s days a es → (c : Call) → Reached m s days (account_after m a c) (minutes_after m a es c)

@@ -1,10 +1,9 @@
 -- R87: how far CO2 equivalent and the tonnes are from equation (15).
-use Rattle.std.specs.Prelude.{ℕ, ◌*◌, ◌<◌, ◌≡◌}
+use Rattle.std.specs.Prelude.{Ok, ℕ, ◌*◌, ◌<◌, ◌≡◌}
 use Rattle.exact.specs.Fractions.{Frac, ◌⊕◌, ◌⊗◌, ◌⊘◌, whole, ◌≼◌, ◌≺◌}
 use Rattle.tool06.specs.Year.{PE_flare}
 use Rattle.account.specs.Closing.{co2e, closing}
 use Rattle.account.specs.declared.Account.{Account}
-use Rattle.account.specs.declared.close.Closed.TheVariants.{Tonnes}
 use Rattle.history.specs.Promises.{OfEvery}
 
 -- R87: an account with N minutes with gas beside PE in tonnes; co2e is in mg, 1,000,000,000 to a tonne
@@ -16,9 +15,9 @@ pub record BesideEquation15 (PE : Frac) (GWP N : ℕ) (a : Account) : Type 0 whe
   -- .. and less than GWP x N mg above
   pub co2e_near : 0 < N → whole (co2e a) ≺ PE ⊗ whole 1000000000 ⊕ whole (GWP * N)
   -- the tonnes, which are rounded up once more, are never below ..
-  pub tonnes_not_below : (t : ℕ) → closing a ≡ Tonnes t → PE ≼ whole t
+  pub tonnes_not_below : (t : ℕ) → closing a ≡ Ok t → PE ≼ whole t
   -- .. and less than GWP x N mg and one tonne above
-  pub tonnes_near : (t : ℕ) → closing a ≡ Tonnes t → whole t ≺ PE ⊕ whole (GWP * N) ⊘ whole 1000000000 ⊕ whole 1
+  pub tonnes_near : (t : ℕ) → closing a ≡ Ok t → whole t ≺ PE ⊕ whole (GWP * N) ⊘ whole 1000000000 ⊕ whole 1
 
 -- R87: of every account, with its own minutes with gas
 abbrev pub Equation15 : Type 0

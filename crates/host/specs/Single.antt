@@ -1,10 +1,9 @@
 -- R64 to R66: "Single minute, for host programs in C or Rust": what the call returns, and what the answer buffer then holds.
-use Rattle.std.specs.Prelude.{ℕ, Bool, ◌&&◌, not, List, [], ◌∷◌, ◌++◌, eqb, leb}
+use Rattle.refusals.specs.declared.refusal.Refusal.{Refusal}
+use Rattle.std.specs.Prelude.{Result, Ok, Err, ℕ, Bool, ◌&&◌, not, List, [], ◌∷◌, ◌++◌, eqb, leb}
 use Rattle.exact.specs.Layout.{Layout, bytes, laid}
 use Rattle.refusals.specs.Refusals.{number_of}
 use Rattle.refusals.specs.Tables.{Line, first_of}
-use Rattle.refusals.specs.declared.verdict.Verdict.{Verdict}
-use Rattle.refusals.specs.declared.verdict.Verdict.TheVariants.{Fine, Refuse}
 use Rattle.records.specs.House.{buffer_lines, written}
 use Rattle.site.specs.Record.{site_of, site_head_lines}
 use Rattle.site.specs.Rules.{site_lines}
@@ -44,13 +43,13 @@ single_lines site minute answer =
     ++ oxygen_lines (site_of site) (minute_of minute)
 
 -- R64: the first of these refusals, or none
-unfoldable pub single : List ℕ → List ℕ → List ℕ → Verdict
+unfoldable pub single : List ℕ → List ℕ → List ℕ → Result Unit Refusal
 single site minute answer = first_of (single_lines site minute answer)
 
 -- R66: "It returns 0 or the refusal's number"
-unfoldable pub returned : Verdict → ℕ
-returned Fine = 0
-returned (Refuse r) = number_of r
+unfoldable pub returned : Result Unit Refusal → ℕ
+returned (Ok tt) = 0
+returned (Err r) = number_of r
 
 -- R65, R66: the minute's figures at its site
 unfoldable pub single_figures : Masses → List ℕ → List ℕ → ℕ → Figures

@@ -1,15 +1,15 @@
 // A single minute, for host programs in C or Rust: numbers and byte slices only.
 #![tactic(auto)]
 
-ghost use Rattle.std.specs.Prelude.{◌≡◌, ◌+◌, ◌≤◌, length};
-ghost use Rattle.exact.specs.Bytes.{bytes_of, put};
+ghost use Rattle.std.specs.Prelude.{◌≡◌, length};
 ghost use Rattle.tool06.specs.Tool.{Masses, Positive};
-ghost use Rattle.host.specs.Single.{since_in_time, answer_bytes, single, returned, answer_after};
+ghost use Rattle.records.specs.House.{answered};
+ghost use Rattle.host.specs.Single.{since_in_time, answer_bytes, single, single_figures, returned, answer_after};
 
 use minute::Minute;
-use refusals::{Refusal, Verdict};
-use site::{Site, SiteRead};
-use tool06::{Figures, Judged};
+use refusals::Refusal;
+use site::Site;
+use tool06::Figures;
 
 fn in_time(site: Site, days: u16) -> bool
     ensures { result ≡ since_in_time site days }
@@ -17,22 +17,23 @@ fn in_time(site: Site, days: u16) -> bool
     (days != Site::NEVER) & (days <= site.days)
 }
 
-fn put_u64(b: &mut [u8], k: u8, x: u64)
-    requires { k + 8 ≤ 256 }
-    ensures { b.new ≡ put b.old k (bytes_of 8 x) }
-{
-    numbers::put_u32(b, k, (x / 4_294_967_296) as u32);
-    numbers::put_u32(b, k + 4, (x % 4_294_967_296) as u32);
-}
-
 fn fill(answer: &mut [u8], figures: Figures)
     requires { length answer.old ≡ 25 }
     ensures { answer.new ≡ answer_bytes figures }
 {
-    put_u64(answer, 0, figures.fed);
-    put_u64(answer, 8, figures.emitted);
-    put_u64(answer, 16, figures.destroyed);
-    numbers::put_byte(answer, 24, figures.rule);
+    numbers::put(answer, 0, figures.fed);
+    numbers::put(answer, 8, figures.emitted);
+    numbers::put(answer, 16, figures.destroyed);
+    numbers::put(answer, 24, figures.rule);
+}
+
+// The figures, or the first of the refusals 1 to 9 and the minute's 1, 2 and 12 to 19: what the call comes to with any buffer of the right size.
+fn judged(site: &[u8], minute: &[u8], days: u16) -> Result<Figures, Refusal>
+    ensures { (answer : _) → length answer ≡ 25 → (m : Masses) → Positive m → result ≡ answered (single_figures m site.now minute.now days) (single site.now minute.now answer) }
+{
+    let site = reading::read_site(site)?;
+    records::head(minute, Minute::BYTES, Minute::VERSION)?;
+    judge::judge_single(site, reading::minute_in(minute), in_time(site, days))
 }
 
 // 0 and the answer, or the number of the first of the refusals 22, 1 to 9, the minute's 1, 2 and 12 to 19, and the buffer as it was.
@@ -42,24 +43,11 @@ pub fn flare_minute(site: &[u8], minute: &[u8], days: u16, answer: &mut [u8]) ->
     if answer.len() != Figures::ANSWER_BYTES {
         return Refusal::Buffer.number();
     }
-    match reading::read_site(site) {
-        SiteRead::Refused(r) => r.number(),
-        SiteRead::Fields(fields) => match records::head(minute, Minute::BYTES, Minute::VERSION) {
-            Verdict::Refuse(r) => r.number(),
-            Verdict::Fine => {
-                let judged = judge::judge_single(
-                    fields,
-                    reading::minute_in(minute),
-                    in_time(fields, days),
-                );
-                match judged {
-                    Judged::Refused(r) => r.number(),
-                    Judged::Accepted(figures) => {
-                        fill(answer, figures);
-                        0
-                    }
-                }
-            }
-        },
+    match judged(site, minute, days) {
+        Err(r) => r.number(),
+        Ok(figures) => {
+            fill(answer, figures);
+            0
+        }
     }
 }

@@ -10,7 +10,7 @@ ghost use Rattle.tool06.specs.Tool.{Masses, Positive};
 use minute::{Gas, Minute};
 use refusals::{Refusal, Verdict};
 use site::Site;
-use tool06::{Figures, Judged};
+use tool06::Figures;
 
 // Gas that carries too much oxygen for the equations.
 fn s_negative(gas: Gas) -> bool
@@ -50,21 +50,23 @@ fn figures_of(site: Site, minute: Minute, in_time: bool) -> Figures
 }
 
 // The figures, or the first of the refusals 12 to 19, with 13 where the minute is out of order. The site was examined.
-pub fn judge(site: Site, minute: Minute, disordered: bool, in_time: bool) -> Judged
+pub fn judge(
+    site: Site,
+    minute: Minute,
+    disordered: bool,
+    in_time: bool,
+) -> Result<Figures, Refusal>
     requires { Examined site }
     ensures { (m : Masses) → Positive m → result ≡ judged m disordered site minute in_time }
 {
-    let verdict = minute
+    minute
         .verdict(disordered)
-        .also(oxygen_wrong(site, minute), Refusal::Oxygen);
-    match verdict {
-        Verdict::Refuse(r) => Judged::Refused(r),
-        Verdict::Fine => Judged::Accepted(figures_of(site, minute, in_time)),
-    }
+        .also(oxygen_wrong(site, minute), Refusal::Oxygen)?;
+    Ok(figures_of(site, minute, in_time))
 }
 
 // The same of a single minute, which is out of order where its year does not have it.
-pub fn judge_single(site: Site, minute: Minute, in_time: bool) -> Judged
+pub fn judge_single(site: Site, minute: Minute, in_time: bool) -> Result<Figures, Refusal>
     requires { Examined site }
     ensures { (m : Masses) → Positive m → result ≡ judged m (beyond_year site minute) site minute in_time }
 {

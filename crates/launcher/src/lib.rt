@@ -8,15 +8,19 @@ use std::rt::{Env, Files};
 // The launcher listens here, at descriptor 3, and makes an exit status of what it is told.
 const LAUNCHER: &str = "/dev/fd/3";
 
-// Whether one of the first two words after the program's name is this one.
+// How many words after the program's name the launcher may give.
+const WORDS: usize = 2;
+
+// Whether one of the words after the program's name is this one.
 pub fn asked(rt: &impl Env, word: &[u8]) -> bool {
-    is(rt, 1, word) | is(rt, 2, word)
+    (1..=WORDS).any(|place| is(rt, place, word))
 }
 
+// No longer word is asked for. A buffer holds it: the list of std's `env::args` is made on the heap, which no program here has.
 fn is(rt: &impl Env, place: usize, word: &[u8]) -> bool {
     let mut given = [0u8; 16];
-    let n = rt.arg(place, &mut given).unwrap_or(0);
-    &given[0..n] == word
+    let length = rt.arg(place, &mut given).unwrap_or(0);
+    &given[..length] == word
 }
 
 // Where nobody listens, nothing is told.

@@ -1,12 +1,8 @@
 -- R69, R70, R73: the lines of a minute and of a refused site.
-use Rattle.std.specs.Prelude.{ℕ, List, [], ◌++◌}
+use Rattle.std.specs.Prelude.{Result, Ok, Err, ℕ, List, [], ◌++◌}
 use Rattle.refusals.specs.Refusals.{number_of}
 use Rattle.refusals.specs.declared.refusal.Refusal.{Refusal}
-use Rattle.refusals.specs.declared.verdict.Verdict.{Verdict}
-use Rattle.refusals.specs.declared.verdict.Verdict.TheVariants.{Fine, Refuse}
 use Rattle.tool06.specs.declared.figures.Figures.{Figures}
-use Rattle.tool06.specs.declared.figures.Judged.{Judged}
-use Rattle.tool06.specs.declared.figures.Judged.TheVariants.{Accepted, Refused}
 use Rattle.text.specs.Text.{text, decimal}
 
 -- R69, R71: methane in mg, of a minute or of sums
@@ -32,14 +28,14 @@ refused_line minute r =
     ++ text "\n"
 
 -- R69, R70: the line of a minute's answer
-abbrev pub minute_line : ℕ → Judged → List ℕ
-minute_line minute (Accepted f) = accepted_line minute f
-minute_line minute (Refused r) = refused_line minute r
+abbrev pub minute_line : ℕ → Result Figures Refusal → List ℕ
+minute_line minute (Ok f) = accepted_line minute f
+minute_line minute (Err r) = refused_line minute r
 
 -- R70: the line of the refusal that ended the reading, with "E the expected minute"; none where none did
-abbrev pub last_line : ℕ → Verdict → List ℕ
-last_line expected Fine = []
-last_line expected (Refuse r) = refused_line expected r
+abbrev pub last_line : ℕ → Result Unit Refusal → List ℕ
+last_line expected (Ok tt) = []
+last_line expected (Err r) = refused_line expected r
 
 -- R73: "A refused site prints only `site refused R`"
 unfoldable pub site_line : Refusal → List ℕ

@@ -1,79 +1,75 @@
-// The lines of a minute and of a refused site, each put into a buffer from a place on.
+// The lines of a minute and of a refused site, each put on a page from its place on.
 #![tactic(auto)]
 
-ghost use Rattle.std.specs.Prelude.{◌≡◌, ◌+◌, ◌≤◌, length};
-ghost use Rattle.room.specs.Places.{placed, place_after};
-ghost use Rattle.text.specs.Places.{PutFrom};
+ghost use Rattle.std.specs.Prelude.{◌+◌, ◌≤◌, length};
+ghost use Rattle.room.specs.Places.{PutsLine};
+ghost use Rattle.text.specs.Places.{Puts};
 ghost use Rattle.lines.specs.Lines.{methane, accepted_line, refused_line, minute_line, site_line};
 
 use refusals::Refusal;
 use room::room;
-use text::{put_decimal, put_text};
-use tool06::{Figures, Judged};
+use text::Page;
+use tool06::Figures;
 
 // No line is longer.
 pub const LONGEST: usize = 163;
 
 // Methane in mg, of a minute or of sums.
-pub fn put_methane(out: &mut [u8], at: usize, fed: u64, emitted: u64, destroyed: u64) -> usize
-    requires { at + 85 ≤ length out.old }
-    ensures put_from { PutFrom out.old at (methane fed emitted destroyed) out.new result }
-    ensures within { result ≤ at + 85 }
+pub fn put_methane(page: &mut Page, fed: u64, emitted: u64, destroyed: u64)
+    requires { page.old.at + 85 ≤ length page.old.buffer.now }
+    ensures put_from { Puts page.old (methane fed emitted destroyed) page.new }
+    ensures within { page.new.at ≤ page.old.at + 85 }
 {
-    let at = put_text(out, at, b" fed ");
-    let at = put_decimal(out, at, fed);
-    let at = put_text(out, at, b" emitted ");
-    let at = put_decimal(out, at, emitted);
-    let at = put_text(out, at, b" destroyed ");
-    put_decimal(out, at, destroyed)
+    page.text(b" fed ");
+    page.decimal(fed);
+    page.text(b" emitted ");
+    page.decimal(emitted);
+    page.text(b" destroyed ");
+    page.decimal(destroyed);
 }
 
-fn put_accepted(out: &mut [u8], at: usize, minute: u32, figures: Figures) -> usize
-    requires { at + 163 ≤ length out.old }
-    ensures { PutFrom out.old at (accepted_line minute figures) out.new result }
+fn put_accepted(page: &mut Page, minute: u32, figures: Figures)
+    requires { page.old.at + 163 ≤ length page.old.buffer.now }
+    ensures { Puts page.old (accepted_line minute figures) page.new }
 {
-    let at = put_text(out, at, b"minute ");
-    let at = put_decimal(out, at, minute as u64);
-    let at = put_text(out, at, b" rule ");
-    let at = put_decimal(out, at, figures.rule as u64);
-    let at = put_methane(out, at, figures.fed, figures.emitted, figures.destroyed);
-    put_text(out, at, b"\n")
+    page.text(b"minute ");
+    page.decimal(minute as u64);
+    page.text(b" rule ");
+    page.decimal(figures.rule as u64);
+    put_methane(page, figures.fed, figures.emitted, figures.destroyed);
+    page.text(b"\n");
 }
 
-fn put_refused(out: &mut [u8], at: usize, minute: u32, refusal: Refusal) -> usize
-    requires { at + 163 ≤ length out.old }
-    ensures { PutFrom out.old at (refused_line minute refusal) out.new result }
+fn put_refused(page: &mut Page, minute: u32, refusal: Refusal)
+    requires { page.old.at + 163 ≤ length page.old.buffer.now }
+    ensures { Puts page.old (refused_line minute refusal) page.new }
 {
-    let at = put_text(out, at, b"minute ");
-    let at = put_decimal(out, at, minute as u64);
-    let at = put_text(out, at, b" refused ");
-    let at = put_decimal(out, at, refusal.number() as u64);
-    put_text(out, at, b"\n")
+    page.text(b"minute ");
+    page.decimal(minute as u64);
+    page.text(b" refused ");
+    page.decimal(refusal.number() as u64);
+    page.text(b"\n");
 }
 
-// A minute's line: its figures, or its refusal. Answers the place after the line; without room for any line nothing is put, and that is at.
-pub fn put_minute(out: &mut [u8], at: usize, minute: u32, answer: Judged) -> usize
-    ensures { (result ≡ place_after out.old at (minute_line minute answer)) × (out.new ≡ placed out.old at (minute_line minute answer)) }
+// A minute's line: its figures, or its refusal. Without room for any line nothing is put, and the place stays.
+pub fn put_minute(page: &mut Page, minute: u32, answer: Result<Figures, Refusal>)
+    ensures { PutsLine page.old (minute_line minute answer) page.new }
 {
-    if LONGEST <= room(out, at) {
+    if LONGEST <= room(page) {
         match answer {
-            Judged::Accepted(figures) => put_accepted(out, at, minute, figures),
-            Judged::Refused(refusal) => put_refused(out, at, minute, refusal),
+            Ok(figures) => put_accepted(page, minute, figures),
+            Err(refusal) => put_refused(page, minute, refusal),
         }
-    } else {
-        at
     }
 }
 
 // What is printed of a refused site, and nothing else is.
-pub fn put_site(out: &mut [u8], at: usize, refusal: Refusal) -> usize
-    ensures { (result ≡ place_after out.old at (site_line refusal)) × (out.new ≡ placed out.old at (site_line refusal)) }
+pub fn put_site(page: &mut Page, refusal: Refusal)
+    ensures { PutsLine page.old (site_line refusal) page.new }
 {
-    if LONGEST <= room(out, at) {
-        let at = put_text(out, at, b"site refused ");
-        let at = put_decimal(out, at, refusal.number() as u64);
-        put_text(out, at, b"\n")
-    } else {
-        at
+    if LONGEST <= room(page) {
+        page.text(b"site refused ");
+        page.decimal(refusal.number() as u64);
+        page.text(b"\n");
     }
 }

@@ -17,21 +17,14 @@ impl Maintenance {
     pub const FIRST: i16 = -3_660;
 
     // The list. Of one that is longer than is allowed the first days, under its own length.
+    #[tactic(auto, using(crate::proofs::Kept::all_kept))]
     pub fn of(list: &[i16]) -> Maintenance
         ensures { result ≡ maintenance_of list.now }
     {
         let listed = list.len();
-        let kept = if listed <= Maintenance::MOST {
-            listed
-        } else {
-            Maintenance::MOST
-        };
+        let kept = listed.min(Maintenance::MOST);
         let mut days = [0i16; Maintenance::MOST];
-        let mut i: usize = 0;
-        while i < kept {
-            days[i] = list[i];
-            i = i + 1;
-        }
+        days[..kept].copy_from_slice(&list[..kept]);
         Maintenance { days, listed }
     }
 }
@@ -51,14 +44,11 @@ pub fn list_wrong(list: &[i16], last: i16) -> bool
         return true;
     }
     let mut before: i16 = Maintenance::FIRST - 1;
-    let mut i: usize = 0;
-    while i < list.len() {
-        let day = list[i];
-        if out_of_place(day, before, last) {
+    for day in list {
+        if out_of_place(*day, before, last) {
             return true;
         }
-        before = day;
-        i = i + 1;
+        before = *day;
     }
     false
 }

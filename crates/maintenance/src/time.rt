@@ -20,12 +20,5 @@ fn serves(e: i16, day: u32, allowed: u16) -> bool
 pub fn in_time(list: &[i16], day: u32, allowed: u16) -> bool
     ensures { result ≡ in_time list.now day allowed }
 {
-    let mut i: usize = 0;
-    while i < list.len() {
-        if serves(list[i], day, allowed) {
-            return true;
-        }
-        i = i + 1;
-    }
-    false
+    list.iter().any(|listed| serves(*listed, day, allowed))
 }

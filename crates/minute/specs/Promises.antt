@@ -2,16 +2,12 @@
 use Rattle.records.specs.RoundTrip.{Kind}
 use Rattle.minute.specs.Record.{minute_form, minute_bytes, read_minute, write_minute}
 use Rattle.minute.specs.declared.Minute.{Minute}
-use Rattle.minute.specs.declared.MinuteRead.{MinuteRead}
-use Rattle.minute.specs.declared.MinuteRead.TheVariants.{Fields as Accepted}
 
 -- R9, R85: its size, and the calls that read and write it
 abbrev pub minute_kind : Kind
 minute_kind = record {
   Fields = Minute;
-  Answer = MinuteRead;
   size = minute_form.size;
-  accepted = Accepted;
   image = minute_bytes;
   write = write_minute;
   read = read_minute;

@@ -1,14 +1,12 @@
 -- R9: the minute record, 54 bytes.
-use Rattle.std.specs.Prelude.{ℕ, List, [], ◌∷◌, ◌++◌, take, drop}
+use Rattle.refusals.specs.declared.refusal.Refusal.{Refusal}
+use Rattle.std.specs.Prelude.{Result, ℕ, List, [], ◌∷◌, ◌++◌, take, drop}
 use Rattle.exact.specs.Bytes.{signed, unsigned}
 use Rattle.exact.specs.Layout.{Layout, bytes, Maker}
 use Rattle.refusals.specs.Tables.{Line, first_of}
 use Rattle.records.specs.House.{Form, bytes_by, fields_by, head_lines, buffer_lines, answered}
-use Rattle.refusals.specs.declared.verdict.Verdict.{Verdict}
 use Rattle.minute.specs.Rules.{alone_lines}
 use Rattle.minute.specs.declared.Minute.{Minute}
-use Rattle.minute.specs.declared.MinuteRead.{MinuteRead}
-use Rattle.minute.specs.declared.MinuteRead.TheVariants.{Fields, Refused}
 
 -- R9: the table's bytes and fields, the gases "in the order CH4, CO, CO2, O2, H2, H2S, NH3, N2"
 abbrev pub minute_layout : Layout Minute
@@ -57,11 +55,11 @@ abbrev pub minute_head_lines : List ℕ → List Line
 minute_head_lines b = head_lines minute_form.size minute_form.version b
 
 -- R61: "Reading a minute alone, without a site, gives 1, 2, 12, 13 in that sense, 14 to 18"
-unfoldable pub read_minute : List ℕ → MinuteRead
-read_minute b = answered Fields Refused (minute_of b) (first_of (minute_head_lines b ++ alone_lines (minute_of b)))
+unfoldable pub read_minute : List ℕ → Result Minute Refusal
+read_minute b = answered (minute_of b) (first_of (minute_head_lines b ++ alone_lines (minute_of b)))
 
 -- R60: "Writing takes fields and a .. 54-byte buffer: 22, then the same field refusals"
-unfoldable pub write_minute : Minute → List ℕ → Verdict
+unfoldable pub write_minute : Minute → List ℕ → Result Unit Refusal
 write_minute n out = first_of (buffer_lines minute_form.size out ++ alone_lines n)
 
 -- R62, R68: of records one after the other, the first, which the end may cut short

@@ -28,12 +28,6 @@ pub struct Minute {
     pub exhaust: Readings,
 }
 
-#[derive(Clone, Copy)]
-pub enum MinuteRead {
-    Fields(Minute),
-    Refused(Refusal),
-}
-
 impl Minute {
     pub const BYTES: usize = 54;
 
@@ -93,13 +87,13 @@ impl Minute {
     }
 
     // The first of the refusals 12 to 18 of the fields, with 13 where the minute is out of order.
-    pub fn verdict(self, disordered: bool) -> Verdict
+    pub fn verdict(self, disordered: bool) -> Result<(), Refusal>
         ensures { result ≡ first_of (minute_lines disordered self) }
     {
         let gas = self.gas;
         let litres = self.litres;
         let burnt = 0 < litres;
-        Verdict::Fine
+        Ok(())
             .also(Minute::FLAGS < self.flags, Refusal::Flags)
             .also(disordered, Refusal::Order)
             .also(Minute::MOST_LITRES < litres, Refusal::Flow)
@@ -110,7 +104,7 @@ impl Minute {
     }
 
     // The verdict of a minute alone, which is out of order where no year has it.
-    pub fn alone(self) -> Verdict
+    pub fn alone(self) -> Result<(), Refusal>
         ensures { result ≡ first_of (alone_lines self) }
     {
         self.verdict(Minute::MINUTES <= self.number)

@@ -1,4 +1,6 @@
 -- No line of a month is cut: it is its pieces, and each piece has so many bytes at most.
+use Rattle.std.specs.Prelude.{Result, Ok, Err}
+use Rattle.refusals.specs.declared.refusal.Refusal.{Refusal}
 use Prim.Native.Nat.{ℕ, ◌≤◌}
 use mathlib.Core.Path.{◌≡◌, refl}
 use native.Mathlib.Omega.{arith}
@@ -6,8 +8,6 @@ use lib.ListN.{length, length-append}
 use Rattle.sums.specs.scaffold.Fits.{minutes_most}
 use Rattle.account.specs.declared.Account.{Account}
 use Rattle.by_month.specs.Month.{month_asked}
-use Rattle.by_month.specs.declared.Asked.{Asked}
-use Rattle.by_month.specs.declared.Asked.TheVariants.{Is, Refused}
 use Rattle.by_month.specs.declared.Row.{Row}
 use Rattle.by_month.proofs.Laws.{GivenRow, given-row}
 use Rattle.text.specs.Text.{decimal}
@@ -39,6 +39,6 @@ pub month_uncut : MonthUncut
 unfolding month_line
 month_uncut a kept k = by_asked (month_asked a k) refl
   where
-    by_asked : (asked : Asked) → month_asked a k ≡ asked → length (asked_line k asked) ≤ 163
-    by_asked (Is row) e = row_within a k row (given-row kept k row e)
-    by_asked (Refused r) e = omega arith
+    by_asked : (asked : Result Row Refusal) → month_asked a k ≡ asked → length (asked_line k asked) ≤ 163
+    by_asked (Ok row) e = row_within a k row (given-row kept k row e)
+    by_asked (Err r) e = omega arith

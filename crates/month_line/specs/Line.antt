@@ -1,9 +1,8 @@
 -- R93: the line of a month.
-use Rattle.std.specs.Prelude.{ℕ, List, [], ◌++◌}
+use Rattle.refusals.specs.declared.refusal.Refusal.{Refusal}
+use Rattle.std.specs.Prelude.{Result, Ok, Err, ℕ, List, [], ◌++◌}
 use Rattle.account.specs.declared.Account.{Account}
 use Rattle.by_month.specs.Month.{month_asked}
-use Rattle.by_month.specs.declared.Asked.{Asked}
-use Rattle.by_month.specs.declared.Asked.TheVariants.{Is, Refused}
 use Rattle.by_month.specs.declared.Row.{Row}
 use Rattle.text.specs.Text.{text, decimal}
 use Rattle.sheet.specs.Sheet.{sums_text}
@@ -13,9 +12,9 @@ unfoldable pub row_line : ℕ → Row → List ℕ
 row_line k row = text "month " ++ decimal k ++ text " minutes " ++ sums_text row.sums row.co2e ++ text "\n"
 
 -- R93: the line of what was asked; a month that is refused has none
-abbrev pub asked_line : ℕ → Asked → List ℕ
-asked_line k (Is row) = row_line k row
-asked_line k (Refused r) = []
+abbrev pub asked_line : ℕ → Result Row Refusal → List ℕ
+asked_line k (Ok row) = row_line k row
+asked_line k (Err r) = []
 
 -- R93: the line of month k of an account
 unfoldable pub month_line : Account → ℕ → List ℕ

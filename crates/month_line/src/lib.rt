@@ -1,45 +1,40 @@
 // The line of a month.
 #![tactic(auto)]
 
-ghost use Rattle.std.specs.Prelude.{◌≡◌, ◌+◌, ◌≤◌, length};
+ghost use Rattle.std.specs.Prelude.{◌+◌, ◌≤◌, length};
 ghost use Rattle.account.specs.Kept.{Kept};
 ghost use Rattle.sums.specs.scaffold.Fits.{minutes_most};
-ghost use Rattle.text.specs.Places.{PutFrom};
-ghost use Rattle.room.specs.Places.{placed, place_after};
+ghost use Rattle.text.specs.Places.{Puts};
+ghost use Rattle.room.specs.Places.{PutsLine};
 ghost use Rattle.month_line.specs.Line.{row_line, month_line};
 
 use account::Account;
-use by_month::{Asked, Row};
+use by_month::Row;
 use lines::LONGEST;
 use room::room;
 use sheet::{put_count, put_sums};
-use text::put_text;
+use text::Page;
 
-fn put_row(out: &mut [u8], at: usize, month: u32, row: Row) -> usize
-    requires at_in_bounds { at + 163 ≤ length out.old }
+fn put_row(page: &mut Page, month: u32, row: Row)
+    requires at_in_bounds { page.old.at + 163 ≤ length page.old.buffer.now }
     requires month_le_minutes_most { (month ≤ minutes_most) × (row.sums.minutes ≤ minutes_most) × (row.sums.gas ≤ minutes_most) }
-    ensures { PutFrom out.old at (row_line month row) out.new result }
+    ensures { Puts page.old (row_line month row) page.new }
 {
-    let at = put_text(out, at, b"month ");
-    let at = put_count(out, at, month);
-    let at = put_text(out, at, b" minutes ");
-    let at = put_sums(out, at, row.sums, row.co2e);
-    put_text(out, at, b"\n")
+    page.text(b"month ");
+    put_count(page, month);
+    page.text(b" minutes ");
+    put_sums(page, row.sums, row.co2e);
+    page.text(b"\n");
 }
 
-// A month's line, and nothing of a month that is refused. Answers the place after it; without room for any line nothing is put, and that is at.
-pub fn put_month(out: &mut [u8], at: usize, account: Account, month: u32) -> usize
+// A month's line, and nothing of a month that is refused; without room for any line nothing is put, and the place stays.
+pub fn put_month(page: &mut Page, account: Account, month: u32)
     requires { Kept account }
-    ensures { (result ≡ place_after out.old at (month_line account month)) × (out.new ≡ placed out.old at (month_line account month)) }
+    ensures { PutsLine page.old (month_line account month) page.new }
 {
-    match by_month::month(account, month) {
-        Asked::Is(row) => {
-            if LONGEST <= room(out, at) {
-                put_row(out, at, month, row)
-            } else {
-                at
-            }
+    if let Ok(row) = by_month::month(account, month) {
+        if LONGEST <= room(page) {
+            put_row(page, month, row);
         }
-        Asked::Refused(_) => at,
     }
 }

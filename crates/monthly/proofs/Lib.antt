@@ -1,3 +1,3 @@
 pub mod Pieces
-pub mod Unique
 pub mod Within
+pub mod Unique

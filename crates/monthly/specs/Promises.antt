@@ -1,7 +1,6 @@
 -- R76, R93: the records may come in pieces: `months` prints what it would print of all of them in one input.
-use Rattle.std.specs.Prelude.{ℕ, ◌*◌, ◌≡◌, List, ◌++◌, length}
-use Rattle.refusals.specs.declared.verdict.Verdict.{Verdict}
-use Rattle.refusals.specs.declared.verdict.Verdict.TheVariants.{Fine, Refuse}
+use Rattle.refusals.specs.declared.refusal.Refusal.{Refusal}
+use Rattle.std.specs.Prelude.{Result, Ok, Err, ℕ, ◌*◌, ◌≡◌, List, ◌++◌, length}
 use Rattle.minute.specs.Record.{minute_form}
 use Rattle.tool06.specs.Tool.{Masses}
 use Rattle.in_turn.specs.Turn.{records_of, AddedAll, add_all}
@@ -13,9 +12,9 @@ abbrev pub months_of : AddedAll → List ℕ
 months_of all = month_sheet all.account all.verdict
 
 -- R76: what is printed of records that follow others: where one of those was refused, nothing more than of them
-abbrev pub months_after : Masses → AddedAll → List ℕ → Verdict → List ℕ
-months_after m before c Fine = months_of (add_all m before.account (records_of c))
-months_after m before c (Refuse r) = months_of before
+abbrev pub months_after : Masses → AddedAll → List ℕ → Result Unit Refusal → List ℕ
+months_after m before c (Ok tt) = months_of (add_all m before.account (records_of c))
+months_after m before c (Err r) = months_of before
 
 -- R76: n whole records, and then what follows them, print what they print in one piece
 abbrev pub MonthsInPieces : Type 0

@@ -1,83 +1,60 @@
 // Reads a site record and then minutes from standard input, and prints the sums of each month, the total and the year.
 #![tactic(auto)]
 
-ghost use Rattle.std.specs.Prelude.{◌≡◌, length};
-ghost use Rattle.exact.specs.Bytes.{put};
+ghost use Rattle.std.specs.Prelude.{◌+◌, ◌≤◌, length};
 ghost use Rattle.account.specs.Kept.{Kept};
 ghost use Rattle.monthly.specs.Monthly.{month_sheet};
+ghost use Rattle.text.specs.Places.{Puts};
 
 use account::Account;
 use in_turn::add_all;
 use monthly::put_sheet;
-use program::{BUFFERS, Ended, Outcome, begin, conclude, fill, is_last, print, tell};
-use refusals::Verdict;
-use report::RECORDS;
-use std::io::Read;
+use program::{OUT, Output, Stopped, print, read, tell};
+use refusals::Refusal;
+use text::Page;
 
 // All that is printed, once no record follows.
-fn finish(rt: &(impl Print + Eprint), account: Account, verdict: Verdict, out: &mut [u8]) -> Outcome
-    requires kept { Kept account }
-    requires out_len { length out.old ≡ 65536 }
-    ensures { out.new ≡ put out.old 0 (month_sheet account verdict) }
-{
-    let used = put_sheet(out, account, verdict);
-    if print(rt, out, used) {
-        Outcome::Well
-    } else {
-        Outcome::Failed
-    }
-}
-
-// The minutes, a buffer at a time, up to a refusal or the end of the input.
-fn run(
+fn finish(
     rt: &(impl Print + Eprint),
-    input: &mut impl Read,
     account: Account,
-    records: &mut [u8],
-    out: &mut [u8],
-) -> Ended
+    verdict: Result<(), Refusal>,
+    page: &mut Page,
+) -> Result<(), Stopped>
     requires kept { Kept account }
-    requires out_len { length out.old ≡ 65536 }
+    requires room { page.old.at + 2445 ≤ length page.old.buffer.now }
+    ensures { Puts page.old (month_sheet account verdict) page.new }
 {
-    let mut current = account;
-    for _ in 0..BUFFERS {
-        let filled = fill(input, records);
-        // A record that a failed read cuts short was not cut by the input's end, so nothing is printed.
-        if filled.failed {
-            notes::unread(rt);
-            return Ended::of(Outcome::Failed, Verdict::Fine, current, 0);
-        }
-        let n = filled.bytes;
-        let added = add_all(current, &records[0..n]);
-        current = added.account;
-        let verdict = added.verdict;
-        if is_last(verdict, n) {
-            return Ended::of(finish(rt, current, verdict, out), verdict, current, n);
-        }
-    }
-    Ended::of(Outcome::More, Verdict::Fine, current, 0)
+    put_sheet(page, account, verdict);
+    print(rt, page)
 }
 
-// The input, from its site on.
-fn read(rt: HostRuntime) -> Outcome {
-    let mut records = [0u8; 65_536];
-    let mut out = [0u8; 65_536];
-    let mut input = rt.stdin();
-    let begun = begin(&rt, &mut input, &rt.stderr(), &mut out);
-    let outcome = begun.outcome;
-    let Outcome::More = outcome else {
-        return outcome;
-    };
-    let ended = run(
-        &rt,
-        &mut input,
-        begun.account,
-        &mut records[0..RECORDS],
-        &mut out,
-    );
-    conclude(&rt, ended, &records)
+// The sums of each month, of which nothing is printed before the end.
+#[derive(Clone, Copy)]
+struct Months;
+
+impl Output for Months {
+    fn add(
+        &self,
+        _rt: &(impl Print + Eprint),
+        account: &mut Account,
+        records: &[u8],
+        _out: &mut [u8; OUT],
+    ) -> Result<Result<(), Refusal>, Stopped> {
+        Ok(add_all(account, records))
+    }
+
+    fn end(
+        &self,
+        rt: &(impl Print + Eprint),
+        account: Account,
+        verdict: Result<(), Refusal>,
+        out: &mut [u8; OUT],
+    ) -> Result<(), Stopped> {
+        let mut page = Page { buffer: out, at: 0 };
+        finish(rt, account, verdict, &mut page)
+    }
 }
 
 fn main(rt: HostRuntime) {
-    tell(&rt, read(rt));
+    tell(&rt, read(&rt, &mut rt.stdin(), &rt.stderr(), &Months));
 }

@@ -13,13 +13,7 @@ pub fn ceil_div(x: u64, a: u64) -> u64
     requires { (0 < a) × (x + a ≤ 2 ^ 64) }
     ensures { result ≡ ceil_div x a }
 {
-    (x + (a - 1)) / a
-}
-
-fn smaller(x: u64, y: u64) -> u64
-    ensures { result ≡ min x y }
-{
-    if x <= y { x } else { y }
+    x.div_ceil(a)
 }
 
 pub fn fed_ng(minute: Minute) -> u64
@@ -68,7 +62,7 @@ fn measured_ng(fed: u64, tenths: u64, x: u64, air: u64) -> u64
     let digit = air * (tenths * (fed % Loss::ALL_TENTHS));
     let rest = ceil_div(5 * (x % Loss::Q) * Loss::P + Loss::Q * digit, 5 * Loss::Q);
     let up = ceil_div(x / Loss::Q * Loss::P + rest, 2 * air);
-    smaller(tenths * (fed / Loss::ALL_TENTHS) + up, fed)
+    (tenths * (fed / Loss::ALL_TENTHS) + up).min(fed)
 }
 
 pub fn emitted_ng(loss: Loss, minute: Minute, fed: u64) -> u64

@@ -1,6 +1,7 @@
 // A minute of a year as a date and a time of day.
-use crate::say;
 use site::Site;
+use std::fmt;
+use std::fmt::{Display, Formatter, Write};
 
 // How many days the last month has.
 const DECEMBER: u32 = 31;
@@ -22,15 +23,13 @@ fn days_in(month: u32, year: u16) -> u32 {
 
 // A day behind the year's last is one that December does not have.
 fn date_of(day: u32, year: u16) -> Date {
-    let mut month: u32 = 1;
     let mut left = day;
-    while month < 12 {
+    for month in 1..12 {
         let days = days_in(month, year);
         if left < days {
             return Date { month, day: left };
         }
-        left = left - days;
-        month = month + 1;
+        left -= days;
     }
     Date {
         month: 12,
@@ -38,16 +37,22 @@ fn date_of(day: u32, year: u16) -> Date {
     }
 }
 
-// As in `minute 100 (2027-01-01 01:40)`; a minute that the year does not have is only a number.
-pub(crate) fn minute(rt: &impl Eprint, words: &str, minute: u32, year: u16) {
-    let date = date_of(minute / Site::DAY_MINUTES, year);
-    say::number(rt, words, minute as u64);
-    if date.day < DECEMBER {
-        say::number(rt, " (", year as u64);
-        say::pair(rt, "-", date.month);
-        say::pair(rt, "-", date.day + 1);
-        say::pair(rt, " ", minute / 60 % 24);
-        say::pair(rt, ":", minute % 60);
-        say::text(rt, ")");
+// A minute of a year, shown as in `100 (2027-01-01 01:40)`; one that the year does not have is only a number.
+#[derive(Clone, Copy)]
+pub(crate) struct Moment {
+    pub(crate) minute: u32,
+    pub(crate) year: u16,
+}
+
+impl Display for Moment {
+    fn fmt<W: Write>(&self, f: &mut Formatter<W>) -> fmt::Result {
+        let Moment { minute, year } = *self;
+        write!(f, "{minute}")?;
+        let date = date_of(minute / Site::DAY_MINUTES, year);
+        if DECEMBER <= date.day {
+            return Ok(());
+        }
+        write!(f, " ({year}-{:02}-{:02} ", date.month, date.day + 1)?;
+        write!(f, "{:02}:{:02})", minute / 60 % 24, minute % 60)
     }
 }

@@ -1,2 +1,2 @@
-pub mod Complement
+pub mod Places
 pub mod Unique

@@ -1,46 +1,50 @@
 // The input's beginning: the site, and an account of it.
-ghost use Rattle.std.specs.Prelude.{◌≡◌, length};
-ghost use Rattle.refusals.specs.declared.verdict.Verdict.TheVariants.{Fine};
+ghost use Rattle.std.specs.Prelude.{ℕ, ◌≡◌, ◌+◌, ◌≤◌, [], length, take, IfOk};
 ghost use Rattle.account.specs.Kept.{Kept};
-ghost use Rattle.exact.specs.Bytes.{put};
+ghost use Rattle.account.specs.Opening.{opened};
 ghost use Rattle.lines.specs.Lines.{site_line};
-ghost use Rattle.site.specs.Record.{site_of, read_site};
-ghost use Rattle.site.specs.declared.SiteRead.TheVariants.{Fields};
+ghost use Rattle.site.specs.Record.{read_site};
+ghost use Rattle.site.specs.declared.Site.{Site};
+ghost use Rattle.text.specs.Places.{Puts};
 
-use crate::outcome::Outcome;
-use crate::streams::{fill, print};
+use crate::ended::Stopped;
+use crate::minutes::OUT;
+use crate::streams::{fill, print, unread};
 use account::Account;
 use ending::put_refused_site;
-use refusals::{Refusal, Verdict};
-use site::{Site, SiteRead};
+use refusals::Refusal;
+use site::Site;
+use std::io;
 use std::io::{IsTerminal, Read};
-
-// With More the account takes minutes; of the one beside another outcome nothing is said.
-#[derive(Clone, Copy)]
-pub struct Begun {
-    pub outcome: Outcome,
-    pub account: Account,
-}
+use text::Page;
 
 // All that is printed of a site that is refused.
-fn print_refused(rt: &(impl Print + Eprint), refusal: Refusal, out: &mut [u8]) -> bool
-    requires { length out.old ≡ 65536 }
-    ensures { out.new ≡ put out.old 0 (site_line refusal) }
+fn print_refused(
+    rt: &(impl Print + Eprint),
+    refusal: Refusal,
+    page: &mut Page,
+) -> Result<(), Stopped>
+    requires { page.old.at + 163 ≤ length page.old.buffer.now }
+    ensures { Puts page.old (site_line refusal) page.new }
 {
-    let used = put_refused_site(out, refusal);
-    print(rt, out, used)
+    put_refused_site(page, refusal);
+    print(rt, page)
 }
 
-// A site that is refused, and why. No minute follows.
-fn refuse(rt: &(impl Print + Eprint), refusal: Refusal, bytes: &[u8], out: &mut [u8]) -> Outcome
-    requires { length out.old ≡ 65536 }
-    ensures { result ≡ Outcome.More → ⊥ }
-{
-    if print_refused(rt, refusal, out) {
-        notes::refused_site(rt, refusal, bytes);
-        Outcome::Refused
-    } else {
-        Outcome::Failed
+// A site that is refused, and why.
+fn refuse(
+    rt: &(impl Print + Eprint),
+    refusal: Refusal,
+    bytes: &[u8],
+    out: &mut [u8; OUT],
+) -> Stopped {
+    let mut page = Page { buffer: out, at: 0 };
+    match print_refused(rt, refusal, &mut page) {
+        Ok(()) => {
+            notes::refused_site(rt, refusal, bytes);
+            Stopped::Refused
+        }
+        Err(stopped) => stopped,
     }
 }
 
@@ -51,56 +55,45 @@ fn show(rt: &impl Eprint, stderr: &impl IsTerminal, site: Site) {
     }
 }
 
-// Refuses the site in these bytes, or shows it; the verdict is that of its opening. Minutes follow only where neither refuses.
+// The account of the site in these bytes, or why it is refused.
+#[tactic(auto, using(account::proofs::Laws::opened_kept))]
+fn open(bytes: &[u8]) -> Result<Account, Refusal>
+    ensures of_site { IfOk result (λ account. (site : Site) × (read_site bytes.now ≡ Ok site) × (opened site [] ≡ Ok account)) }
+    ensures kept { IfOk result (λ account. Kept account) }
+{
+    let site = reading::read_site(bytes)?;
+    Account::open(site, &[])
+}
+
+// Of the bytes that were read into the buffer.
 fn receive(
     rt: &(impl Print + Eprint),
     stderr: &impl IsTerminal,
-    bytes: &[u8],
-    verdict: Verdict,
-    out: &mut [u8],
-) -> Outcome
-    requires { length out.old ≡ 65536 }
-    ensures { result ≡ Outcome.More → (verdict ≡ Fine) × (read_site bytes.now ≡ Fields (site_of bytes.now)) }
+    read: io::Result<usize>,
+    buffer: &[u8],
+    out: &mut [u8; OUT],
+) -> Result<Account, Stopped>
+    requires { IfOk read (λ bytes. bytes ≤ length buffer.now) }
+    ensures of_site { IfOk result (λ account. (n : ℕ) × (read ≡ Ok n) × (site : Site) × (read_site (take n buffer.now) ≡ Ok site) × (opened site [] ≡ Ok account)) }
+    ensures kept { IfOk result (λ account. Kept account) }
 {
-    match reading::read_site(bytes) {
-        SiteRead::Refused(refusal) => refuse(rt, refusal, bytes, out),
-        SiteRead::Fields(site) => match verdict {
-            Verdict::Refuse(refusal) => refuse(rt, refusal, bytes, out),
-            Verdict::Fine => {
-                show(rt, stderr, site);
-                Outcome::More
-            }
-        },
-    }
+    let n = read.map_err(|_| unread(rt))?;
+    let bytes = &buffer[..n];
+    let account = open(bytes).map_err(|refusal| refuse(rt, refusal, bytes, out))?;
+    show(rt, stderr, account.site());
+    Ok(account)
 }
 
 // Reads the site and opens its account, or prints its refusal and says why.
-// The account is opened in one place, whatever the bytes are, so that the compiler knows its list to be empty.
 pub fn begin(
     rt: &(impl Print + Eprint),
     input: &mut impl Read,
     stderr: &impl IsTerminal,
-    out: &mut [u8],
-) -> Begun
-    requires { length out.old ≡ 65536 }
-    ensures { result.outcome ≡ Outcome.More → Kept result.account }
+    out: &mut [u8; OUT],
+) -> Result<Account, Stopped>
+    ensures { IfOk result (λ account. Kept account) }
 {
     let mut first = [0u8; Site::BYTES];
-    let filled = fill(input, &mut first);
-    let n = filled.bytes;
-    let bytes = &first[0..n];
-    let opened = Account::open(reading::site_in(bytes), &[0i16; 0]);
-    let account = opened.account;
-    if filled.failed {
-        notes::unread(rt);
-        return Begun {
-            outcome: Outcome::Failed,
-            account,
-        };
-    }
-    let verdict = opened.verdict;
-    Begun {
-        outcome: receive(rt, stderr, bytes, verdict, out),
-        account,
-    }
+    let read = fill(input, &mut first);
+    receive(rt, stderr, read, &first, out)
 }

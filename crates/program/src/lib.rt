@@ -2,11 +2,11 @@
 #![tactic(auto)]
 
 mod beginning;
-mod buffers;
-mod outcome;
+mod ended;
+mod minutes;
 mod streams;
 
-pub use beginning::{Begun, begin};
-pub use buffers::{BUFFERS, is_last};
-pub use outcome::{Ended, Outcome, conclude, tell};
-pub use streams::{Filled, fill, print};
+pub use beginning::begin;
+pub use ended::{Ended, Stopped, conclude, tell};
+pub use minutes::{OUT, Output, read, run};
+pub use streams::{fill, print};

@@ -1,4 +1,6 @@
 -- Every answer is decided by its table, whatever the answer's type.
+use Rattle.std.specs.Prelude.{Result, Ok, Err}
+use Rattle.tool06.specs.declared.figures.Figures.{Figures}
 use Prim.Native.Nat.{ℕ, zero, suc, ◌+◌, ◌*◌, ◌/◌, ◌%◌, ◌<◌}
 use mathlib.Core.Path.{◌≡◌, refl}
 use mathlib.Core.Bool.{Bool, true, false, not, cond}
@@ -14,20 +16,14 @@ use Rattle.refusals.specs.Refusals.{number_of}
 use Rattle.refusals.specs.Tables.{Line, when, first_of}
 use Rattle.refusals.specs.declared.refusal.Refusal.{Refusal}
 use Rattle.refusals.specs.declared.refusal.Refusal.TheVariants.{Length, Version, Method, Year, Gwp, Size, Spec, Open, Schedule, List as LIST, Full, Flags, Order, Flow, Composition, Methane, Temperature, Exhaust, Oxygen, Incomplete, Day, Buffer, Month}
-use Rattle.refusals.specs.declared.verdict.Verdict.{Verdict}
-use Rattle.refusals.specs.declared.verdict.Verdict.TheVariants.{Fine, Refuse}
 use Rattle.records.specs.House.{head_lines, buffer_lines, answered, written}
 use Rattle.site.specs.Record.{site_of, site_bytes, read_site, write_site, site_form, site_head_lines}
 use Rattle.site.specs.Rules.{site_lines}
-use Rattle.site.specs.declared.SiteRead.TheVariants.{Fields as SiteFields, Refused as SiteRefused}
 use Rattle.minute.specs.Record.{minute_of, minute_bytes, read_minute, write_minute, minute_form, minute_head_lines}
 use Rattle.minute.specs.Rules.{minute_lines, alone_lines}
-use Rattle.minute.specs.declared.MinuteRead.TheVariants.{Fields as MinuteFields, Refused as MinuteRefused}
 use Rattle.tool06.specs.Bounds.{figures_of}
 use Rattle.tool06.specs.declared.class.Class.TheVariants.{Open as Open', Low, Tall}
 use Rattle.tool06.specs.Tool.{Masses}
-use Rattle.tool06.specs.declared.figures.Judged.{Judged}
-use Rattle.tool06.specs.declared.figures.Judged.TheVariants.{Accepted, Refused}
 use Rattle.due.specs.Answer.{is_full, entry, add_lines, answer}
 use Rattle.account.specs.Adding.{due, after_answer, add_to}
 use Rattle.account.specs.Closing.{co2e, closing, chart}
@@ -35,37 +31,30 @@ use Rattle.tonnes.specs.Tonnes.{in_tonnes}
 use Rattle.account.specs.Opening.{open_lines, fresh, opened}
 use Rattle.in_turn.specs.Turn.{records_of, AddedAll, with_answer, add_all}
 use Rattle.account.specs.declared.Account.{Account}
-use Rattle.account.specs.declared.close.Closed.TheVariants.{Tonnes, Refused as NotClosed}
 use Rattle.by_month.specs.Month.{month_lines, month_row, month_asked}
-use Rattle.by_month.specs.declared.Asked.TheVariants.{Is, Refused as NoRow}
 use Rattle.run.specs.Check.{first_refused, whole_or, checked}
 use Rattle.day.specs.Part.{day_part}
 use Rattle.host.specs.Single.{single_lines, single, single_figures, returned, answer_bytes, answer_after}
-use Rattle.promises.specs.Numbers.{Said, given, refused, said_of_site, said_of_minute, said_of_judged, said_of_closed, said_of_asked, said_of_verdict, said_of_checked, said_of_class, decides}
+use Rattle.promises.specs.Numbers.{Said, given, refused, said_of_site, said_of_minute, said_of_opened, said_of_judged, said_of_closed, said_of_asked, said_of_verdict, said_of_checked, said_of_class, decides}
 use Rattle.promises.specs.Calls.{ReadingASite, ReadingAMinute, WritingASite, WritingAMinute, OpeningAnAccount, AddingAMinute, ClosingAYear, Charting, AskingAMonth, TakingADay, ASingleMinute, Classing, or_later, first_said, CheckingARun, NumbersOfCalls, RefusedChangesNothing}
 
--- an answer of any type whose cases are values and a refusal
+-- an answer of any type, which is a value or a refusal
 by-table :
-    {R A : Type 0} (F : A → R) (why : Refusal → R) (say : R → Said A) (v : A)
-    → say (F v) ≡ given v
-    → ((r : Refusal) → say (why r) ≡ refused r)
-    → (t : List Line) → say (answered F why v (first_of t)) ≡ decides t v
-by-table F why say v fine refuse [] = fine
-by-table F why say v fine refuse (when true r ∷ t) = refuse r
-by-table F why say v fine refuse (when false r ∷ t) = by-table F why say v fine refuse t
-
-by-verdict : {A : Type 0} (v : A) (t : List Line) → said_of_verdict v (first_of t) ≡ decides t v
-by-verdict v [] = refl
-by-verdict v (when true r ∷ t) = refl
-by-verdict v (when false r ∷ t) = by-verdict v t
+    {A : Type 0} (say : Result A Refusal → Said A) (v : A)
+    → say (Ok v) ≡ given v
+    → ((r : Refusal) → say (Err r) ≡ refused r)
+    → (t : List Line) → say (answered v (first_of t)) ≡ decides t v
+by-table say v fine refuse [] = fine
+by-table say v fine refuse (when true r ∷ t) = refuse r
+by-table say v fine refuse (when false r ∷ t) = by-table say v fine refuse t
 
 reading_a_site : ReadingASite
 unfolding read_site head_lines site_lines
-reading_a_site b = record { in_order = refl; decided = by-table SiteFields SiteRefused said_of_site (site_of b) refl (λ r. refl) (site_head_lines b ++ site_lines (site_of b)) }
+reading_a_site b = record { in_order = refl; decided = by-table said_of_site (site_of b) refl (λ r. refl) (site_head_lines b ++ site_lines (site_of b)) }
 
 reading_a_minute : ReadingAMinute
 unfolding read_minute head_lines minute_lines
-reading_a_minute b = record { in_order = refl; decided = by-table MinuteFields MinuteRefused said_of_minute (minute_of b) refl (λ r. refl) (minute_head_lines b ++ alone_lines (minute_of b)) }
+reading_a_minute b = record { in_order = refl; decided = by-table said_of_minute (minute_of b) refl (λ r. refl) (minute_head_lines b ++ alone_lines (minute_of b)) }
 
 -- a lent buffer holds the values where nothing is refused
 by_written : (own image : List ℕ) (t : List Line) → said_of_verdict (written own image (first_of t)) (first_of t) ≡ decides t image
@@ -83,24 +72,24 @@ writing_a_minute n out = record { in_order = refl; decided = by_written out (min
 
 opening_an_account : OpeningAnAccount
 unfolding opened open_lines site_lines
-opening_an_account s days = record { in_order = refl; decided = by-verdict (fresh s days) (open_lines s days) }
+opening_an_account s days = record { in_order = refl; decided = by-table said_of_opened (fresh s days) refl (λ r. refl) (open_lines s days) }
 
 adding_a_minute : AddingAMinute
 unfolding add_to answer add_lines head_lines minute_lines
-adding_a_minute m a b = record { in_order = refl; decided = by-table Accepted Refused said_of_judged (figures_of m (entry (due a) b)) refl (λ r. refl) (add_lines (due a) b) }
+adding_a_minute m a b = record { in_order = refl; decided = by-table said_of_judged (figures_of m (entry (due a) b)) refl (λ r. refl) (add_lines (due a) b) }
 
 closing_a_year : ClosingAYear
 unfolding closing
-closing_a_year a = record { in_order = refl; decided = by-table Tonnes NotClosed said_of_closed (ceil_div (co2e a) 1000000000) refl (λ r. refl) (when (not (is_full (due a))) Incomplete ∷ []) }
+closing_a_year a = record { in_order = refl; decided = by-table said_of_closed (ceil_div (co2e a) 1000000000) refl (λ r. refl) (when (not (is_full (due a))) Incomplete ∷ []) }
 
 asking_a_month : AskingAMonth
 unfolding month_asked
-asking_a_month a k = record { in_order = refl; decided = by-table Is NoRow said_of_asked (month_row a k) refl (λ r. refl) (month_lines k) }
+asking_a_month a k = record { in_order = refl; decided = by-table said_of_asked (month_row a k) refl (λ r. refl) (month_lines k) }
 
-same_number : {A : Type 0} (v : A) (w : Verdict) → returned w ≡ (said_of_verdict v w).number
+same_number : {A : Type 0} (v : A) (w : Result Unit Refusal) → returned w ≡ (said_of_verdict v w).number
 unfolding returned
-same_number v Fine = refl
-same_number v (Refuse r) = refl
+same_number v (Ok tt) = refl
+same_number v (Err r) = refl
 
 a_single_minute : ASingleMinute
 unfolding single single_lines head_lines site_lines minute_lines answer_after answer_bytes
@@ -140,11 +129,11 @@ stops zero expected later h = absurd (omega arith)
 stops (suc k) expected later h = refl
 
 step :
-    (a : Account) (j : Judged) (rest : AddedAll) (later : Said (ℕ × ℕ))
+    (a : Account) (j : Result Figures Refusal) (rest : AddedAll) (later : Said (ℕ × ℕ))
     → said_of_checked (first_refused rest) ≡ later
     → said_of_checked (first_refused (with_answer j a rest)) ≡ or_later (said_of_judged j).number a.sums.minutes later
-step a (Accepted f) rest later e = e
-step a (Refused r) rest later e = stops (number_of r) a.sums.minutes later (no_zero r)
+step a (Ok f) rest later e = e
+step a (Err r) rest later e = stops (number_of r) a.sums.minutes later (no_zero r)
 
 in_turn : (m : Masses) (a : Account) (bs : List (List ℕ)) → said_of_checked (first_refused (add_all m a bs)) ≡ first_said m a bs
 unfolding add_to
@@ -199,18 +188,18 @@ numbers_of_calls = record {
   a_single_minute = a_single_minute;
 }
 
-stays : {A : Type 0} (v : A) (own image : List ℕ) (w : Verdict) → 0 < (said_of_verdict v w).number → written own image w ≡ own
-stays v own image Fine h = absurd (omega arith)
-stays v own image (Refuse r) h = refl
+stays : {A : Type 0} (v : A) (own image : List ℕ) (w : Result Unit Refusal) → 0 < (said_of_verdict v w).number → written own image w ≡ own
+stays v own image (Ok tt) h = absurd (omega arith)
+stays v own image (Err r) h = refl
 
-stays_returned : (own image : List ℕ) (w : Verdict) → 0 < returned w → written own image w ≡ own
+stays_returned : (own image : List ℕ) (w : Result Unit Refusal) → 0 < returned w → written own image w ≡ own
 unfolding returned
-stays_returned own image Fine h = absurd (omega arith)
-stays_returned own image (Refuse r) h = refl
+stays_returned own image (Ok tt) h = absurd (omega arith)
+stays_returned own image (Err r) h = refl
 
-account_stays : (a : Account) (j : Judged) → 0 < (said_of_judged j).number → after_answer a j ≡ a
-account_stays a (Accepted f) h = absurd (omega arith)
-account_stays a (Refused r) h = refl
+account_stays : (a : Account) (j : Result Figures Refusal) → 0 < (said_of_judged j).number → after_answer a j ≡ a
+account_stays a (Ok f) h = absurd (omega arith)
+account_stays a (Err r) h = refl
 
 pub refused_changes_nothing : RefusedChangesNothing
 unfolding answer_after add_to

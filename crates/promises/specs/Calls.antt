@@ -27,7 +27,7 @@ use Rattle.by_month.specs.Month.{month_lines, month_row, month_asked}
 use Rattle.run.specs.Check.{checked}
 use Rattle.day.specs.Part.{day_part}
 use Rattle.host.specs.Single.{single_lines, single, single_figures, returned, answer_after}
-use Rattle.promises.specs.Numbers.{Said, given, said_of_site, said_of_minute, said_of_judged, said_of_closed, said_of_asked, said_of_verdict, said_of_checked, said_of_class, ◌to◌, By}
+use Rattle.promises.specs.Numbers.{Said, given, said_of_site, said_of_minute, said_of_opened, said_of_judged, said_of_closed, said_of_asked, said_of_verdict, said_of_checked, said_of_class, ◌to◌, By}
 
 -- R52: "Site: 1 to 9."
 abbrev pub ReadingASite : Type 0
@@ -61,7 +61,7 @@ Classing =
 abbrev pub OpeningAnAccount : Type 0
 OpeningAnAccount =
     (s : Site) (days : List ℤ) →
-    By (3 to 10) (open_lines s days) (said_of_verdict (opened s days).account (opened s days).verdict) (fresh s days)
+    By (3 to 10) (open_lines s days) (said_of_opened (opened s days)) (fresh s days)
 
 -- R55, R56: "Adding a minute: 11, 1, 2, 12 to 19."
 abbrev pub AddingAMinute : Type 0

@@ -31,7 +31,8 @@ pub record OneOutcomeOfCalls : Type 1 where
   pub writing_a_minute : (κs : _) (a : _) → OneOutcome (λ e. e.1.0.now) (write-minute.Learnt κs a)
   pub classing : (κs : _) (a : _) → OneResult (class_of.Learnt κs a)
   pub opening : (κs : _) (a : _) → OneResult (open-account.Learnt κs a)
-  pub adding : (κs : _) (a : _) → OneResult (add.Learnt κs a)
+  -- R56: the answer, and the account after it
+  pub adding : (κs : _) (a : _) → OneOutcome (λ e. e.0.now) (add.Learnt κs a)
   pub co2_equivalent : (κs : _) (a : _) → OneResult (co2e.Learnt κs a)
   pub closing_a_year : (κs : _) (a : _) → OneResult (close.Learnt κs a)
   pub charting : (κs : _) (a : _) → OneResult (chart.Learnt κs a)

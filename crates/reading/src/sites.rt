@@ -2,23 +2,17 @@
 ghost use Rattle.std.specs.Prelude.{◌≡◌};
 ghost use Rattle.site.specs.Record.{site_of, read_site};
 
-use refusals::Verdict;
-use site::{Flows, Site, SiteRead, Temperatures};
+use refusals::Refusal;
+use site::{Flows, Site, Temperatures};
 
 // The fields, or the first of the refusals 1 to 9.
-pub fn read_site(bytes: &[u8]) -> SiteRead
+pub fn read_site(bytes: &[u8]) -> Result<Site, Refusal>
     ensures { result ≡ read_site bytes.now }
 {
-    match records::head(bytes, Site::BYTES, Site::VERSION) {
-        Verdict::Refuse(r) => SiteRead::Refused(r),
-        Verdict::Fine => {
-            let site = site_in(bytes);
-            match site.verdict() {
-                Verdict::Fine => SiteRead::Fields(site),
-                Verdict::Refuse(r) => SiteRead::Refused(r),
-            }
-        }
-    }
+    records::head(bytes, Site::BYTES, Site::VERSION)?;
+    let site = site_in(bytes);
+    site.verdict()?;
+    Ok(site)
 }
 
 // The fields of a record's bytes, not yet examined.
@@ -26,21 +20,21 @@ pub fn site_in(b: &[u8]) -> Site
     ensures { result ≡ site_of b.now }
 {
     let temperature = Temperatures {
-        lowest: numbers::signed(numbers::u16_at(b, 16)),
-        highest: numbers::signed(numbers::u16_at(b, 18)),
+        lowest: numbers::at(b, 16),
+        highest: numbers::at(b, 18),
     };
     let flow = Flows {
-        lowest: numbers::u32_at(b, 20),
-        highest: numbers::u32_at(b, 24),
+        lowest: numbers::at(b, 20),
+        highest: numbers::at(b, 24),
     };
     Site {
-        method: numbers::byte_at(b, 3),
-        year: numbers::u16_at(b, 4),
-        gwp: numbers::u16_at(b, 6),
-        height: numbers::u32_at(b, 8),
-        diameter: numbers::u32_at(b, 12),
-        temperature: temperature,
-        flow: flow,
-        days: numbers::u16_at(b, 28),
+        method: numbers::at(b, 3),
+        year: numbers::at(b, 4),
+        gwp: numbers::at(b, 6),
+        height: numbers::at(b, 8),
+        diameter: numbers::at(b, 12),
+        temperature,
+        flow,
+        days: numbers::at(b, 28),
     }
 }

@@ -1,4 +1,5 @@
 -- Both round trips of a record in the house form, once for every kind.
+use Rattle.std.specs.Prelude.{Result, Ok}
 use Prim.Native.Nat.{ℕ, ◌+◌, ◌-◌, ◌≤◌}
 use mathlib.Core.Path.{◌≡◌, refl, sym, ap, ap₂, ◌∙◌}
 use mathlib.Core.Bool.{true, not}
@@ -16,10 +17,8 @@ use Rattle.refusals.specs.Tables.{Line, first_of, followed_by}
 use Rattle.records.specs.House.{Form, bytes_by, fields_by, head_lines, buffer_lines, answered, written}
 use Rattle.records.specs.RoundTrip.{Kind, ReadsBack, WritesBack}
 use Rattle.refusals.specs.declared.refusal.Refusal.{Refusal}
-use Rattle.refusals.specs.declared.verdict.Verdict.{Verdict}
-use Rattle.refusals.specs.declared.verdict.Verdict.TheVariants.{Fine, Refuse}
 use Rattle.refusals.proofs.Tables.{joined, split, none}
-use Rattle.records.proofs.Reading.{by_fields}
+use Rattle.records.proofs.Reading.{by_fields, answered_fine}
 
 -- what a head that is fine says
 record Headed (n version : ℕ) (b : List ℕ) : Type 0 where
@@ -27,7 +26,7 @@ record Headed (n version : ℕ) (b : List ℕ) : Type 0 where
   count : number_at 2 b 0 + 2 ≡ n
   version_is : byte_at b 2 ≡ version
 
-headed : (n version : ℕ) (b : List ℕ) → first_of (head_lines n version b) ≡ Fine → Headed n version b
+headed : (n version : ℕ) (b : List ℕ) → first_of (head_lines n version b) ≡ Ok tt → Headed n version b
 unfolding head_lines
 headed n version b e =
     let l = none (head_lines n version b) e in
@@ -38,16 +37,16 @@ headed n version b e =
       version_is = eqb-true (byte_at b 2) version (not-false (eqb (byte_at b 2) version) l.1.0);
     }
 
-head_fine : (n version : ℕ) (b : List ℕ) → Headed n version b → first_of (head_lines n version b) ≡ Fine
+head_fine : (n version : ℕ) (b : List ℕ) → Headed n version b → first_of (head_lines n version b) ≡ Ok tt
 unfolding head_lines
 head_fine n version b h = rw (eq-eqb _ _ h.size, eq-eqb _ _ h.count, eq-eqb _ _ h.version_is)
 
-buffer_fine : (n : ℕ) (out : List ℕ) → length out ≡ n → first_of (buffer_lines n out) ≡ Fine
+buffer_fine : (n : ℕ) (out : List ℕ) → length out ≡ n → first_of (buffer_lines n out) ≡ Ok tt
 buffer_fine n out e = rw (eq-eqb _ _ e)
 
 module _ {S : Type 0} (form : Form S) (gap : gapless 3 form.layout form.size ≡ true) where
   -- the bytes of fields have the form's head
-  pub head_of_bytes : (s : S) → first_of (head_lines form.size form.version (bytes_by form s)) ≡ Fine
+  pub head_of_bytes : (s : S) → first_of (head_lines form.size form.version (bytes_by form s)) ≡ Ok tt
   head_of_bytes s =
       let long = laid-length 3 form.layout form.size s gap in
       head_fine form.size form.version (bytes_by form s) (record { size = omega arith; count = omega arith; version_is = refl })
@@ -57,7 +56,7 @@ module _ {S : Type 0} (form : Form S) (gap : gapless 3 form.layout form.size ≡
   fields_of_bytes s = read-laid form.layout form.make (bytes_of 2 (form.size - 2) ++ (form.version ∷ [])) form.size s gap
 
   -- bytes with the form's head are those of the fields that they hold
-  pub bytes_of_fields : (b : List ℕ) → AreBytes b → first_of (head_lines form.size form.version b) ≡ Fine
+  pub bytes_of_fields : (b : List ℕ) → AreBytes b → first_of (head_lines form.size form.version b) ≡ Ok tt
       → Holds form.layout (fields_by form b) b → bytes_by form (fields_by form b) ≡ b
   bytes_of_fields b h fine holds =
       let d = headed form.size form.version b fine in
@@ -68,50 +67,41 @@ module _ {S : Type 0} (form : Form S) (gap : gapless 3 form.layout form.size ≡
       let room : 3 ≤ length b = within 3 form.layout (length b) whole in
       (λ i. front i ++ (sym d.version_is i ∷ []) ++ body i) ∙ cells-drop 3 b 0 room
 
-module _ {S R : Type 0} (form : Form S) (lines : S → List Line) (fields : S → R) (refused : Refusal → R) where
+module _ {S : Type 0} (form : Form S) (lines : S → List Line) where
   abbrev head : List ℕ → List Line
   head b = head_lines form.size form.version b
 
   abbrev pub kind : Kind
   kind = record {
     Fields = S;
-    Answer = R;
     size = form.size;
-    accepted = fields;
     image = bytes_by form;
     write = λ s out. first_of (buffer_lines form.size out ++ lines s);
-    read = λ b. answered fields refused (fields_by form b) (first_of (head b ++ lines (fields_by form b)));
+    read = λ b. answered (fields_by form b) (first_of (head b ++ lines (fields_by form b)));
   }
 
   -- what is asked of a kind of record
   pub record Sound : Type 0 where
     pub gap : gapless 3 form.layout form.size ≡ true
     -- accepted fields are what is made of their own numbers
-    pub same : (s : S) → first_of (lines s) ≡ Fine → made form.layout form.make s ≡ s
+    pub same : (s : S) → first_of (lines s) ≡ Ok tt → made form.layout form.make s ≡ s
     -- the fields of bytes have the numbers that stand there
     pub held : (b : List ℕ) → AreBytes b → Holds form.layout (fields_by form b) b
-    -- the answers tell fields from refusals, and fields from fields
-    pub one : (s t : S) → fields s ≡ fields t → s ≡ t
-    pub apart : (s : S) (r : Refusal) → refused r ≡ fields s → ⊥
 
   pub reads_back : Sound → ReadsBack kind
   reads_back k s out w =
       let good = (split (buffer_lines form.size out) (lines s) w).1 in
       let b = bytes_by form s in
       let back = fields_of_bytes form k.gap s ∙ k.same s good in
-      ap (λ (v : Verdict). kind.read (written out b v)) w
-      ∙ sym (by_fields fields refused lines (fields_by form b) (head b) s Fine (head_of_bytes form k.gap s) (sym back) (sym good))
-
-  taken : Sound → (s t : S) (v : Verdict) → answered fields refused s v ≡ fields t → (v ≡ Fine) × (s ≡ t)
-  taken k s t Fine e = (refl, k.one s t e)
-  taken k s t (Refuse r) e = absurd (k.apart t r e)
+      ap (λ (v : Result Unit Refusal). kind.read (written out b v)) w
+      ∙ sym (by_fields lines (fields_by form b) (head b) s (Ok tt) (head_of_bytes form k.gap s) (sym back) (sym good))
 
   pub writes_back : Sound → WritesBack kind
   writes_back k b s out h e l =
       let x = fields_by form b in
-      let a = taken k x s (first_of (head b ++ lines x)) e in
+      let a = answered_fine (first_of (head b ++ lines x)) e in
       let p = split (head b) (lines x) a.0 in
-      let good : first_of (lines s) ≡ Fine = ap (λ (y : S). first_of (lines y)) (sym a.1) ∙ p.1 in
-      let w : kind.write s out ≡ Fine = joined (buffer_lines form.size out) (lines s) ∙ ap₂ followed_by (buffer_fine form.size out l) good in
+      let good : first_of (lines s) ≡ Ok tt = ap (λ (y : S). first_of (lines y)) (sym a.1) ∙ p.1 in
+      let w : kind.write s out ≡ Ok tt = joined (buffer_lines form.size out) (lines s) ∙ ap₂ followed_by (buffer_fine form.size out l) good in
       let image : kind.image s ≡ b = ap (bytes_by form) (sym a.1) ∙ bytes_of_fields form k.gap b h p.0 (k.held b h) in
       (w, ap (written out (kind.image s)) w ∙ image)

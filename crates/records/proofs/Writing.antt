@@ -1,4 +1,6 @@
 -- Writing, for any record: the buffer's table and then the fields', and each field put at its place.
+use Rattle.std.specs.Prelude.{Result, Ok}
+use Rattle.refusals.specs.declared.refusal.Refusal.{Refusal}
 use Prim.Native.Nat.{ℕ, ◌-◌, ◌/◌, ◌%◌}
 use mathlib.Core.Path.{◌≡◌, ◌∙◌}
 use mathlib.Core.Bool.{true, not}
@@ -14,8 +16,6 @@ use Rattle.exact.proofs.Layouts.{within, filled-laid}
 use Rattle.refusals.specs.Tables.{Line, first_of, also, followed_by}
 use Rattle.records.specs.House.{Form, bytes_by, buffer_lines}
 use Rattle.refusals.specs.declared.refusal.Refusal.TheVariants.{Buffer}
-use Rattle.refusals.specs.declared.verdict.Verdict.{Verdict}
-use Rattle.refusals.specs.declared.verdict.Verdict.TheVariants.{Fine}
 use Rattle.refusals.proofs.Tables.{chained, followed, split, none}
 
 -- the head and then each field put into a buffer of the form's size
@@ -30,14 +30,14 @@ module _ {S : Type 0} (form : Form S) (s : S) where
       filled-laid form.layout s ((form.size - 2) / 256 ∷ (form.size - 2) % 256 ∷ form.version ∷ []) rest form.size g (omega arith)
 
 -- the buffer's verdict and then the fields' are the table's
-pub by_buffer : (n : ℕ) (out : List ℕ) (lines : List Line) {buffer fields verdict : Verdict}
-    → buffer ≡ also Fine (not (eqb (length out) n)) Buffer → fields ≡ first_of lines → verdict ≡ followed_by buffer fields
+pub by_buffer : (n : ℕ) (out : List ℕ) (lines : List Line) {buffer fields verdict : Result Unit Refusal}
+    → buffer ≡ also (Ok tt) (not (eqb (length out) n)) Buffer → fields ≡ first_of lines → verdict ≡ followed_by buffer fields
     → verdict ≡ first_of (buffer_lines n out ++ lines)
 by_buffer n out lines b f v =
     followed (buffer_lines n out) lines (b ∙ chained (buffer_lines n out)) f v
 
 -- a table that is fine had a buffer of the right size
-pub room : (n : ℕ) (out : List ℕ) (lines : List Line) → first_of (buffer_lines n out ++ lines) ≡ Fine → length out ≡ n
+pub room : (n : ℕ) (out : List ℕ) (lines : List Line) → first_of (buffer_lines n out ++ lines) ≡ Ok tt → length out ≡ n
 room n out lines e =
     let fine = (split (buffer_lines n out) lines e).0 in
     eqb-true (length out) n (not-false (eqb (length out) n) (none (buffer_lines n out) fine).0)

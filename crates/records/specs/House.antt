@@ -1,12 +1,10 @@
 -- R7, R58: the house form, and what reading and writing answer.
-use Rattle.std.specs.Prelude.{ℕ, ◌+◌, ◌-◌, ◌||◌, not, List, [], ◌∷◌, ◌++◌, length, eqb}
+use Rattle.std.specs.Prelude.{Result, Ok, Err, ℕ, ◌+◌, ◌-◌, ◌||◌, not, List, [], ◌∷◌, ◌++◌, length, eqb}
 use Rattle.exact.specs.Bytes.{byte_at, number_at, bytes_of}
 use Rattle.exact.specs.Layout.{Layout, laid, Maker, read_by}
 use Rattle.refusals.specs.Tables.{Line, when}
 use Rattle.refusals.specs.declared.refusal.Refusal.{Refusal}
 use Rattle.refusals.specs.declared.refusal.Refusal.TheVariants.{Length, Version, Buffer}
-use Rattle.refusals.specs.declared.verdict.Verdict.{Verdict}
-use Rattle.refusals.specs.declared.verdict.Verdict.TheVariants.{Fine, Refuse}
 
 -- R7: a record S of one version: how many bytes it has, its version, its table, and what makes an S of the table's numbers
 pub record Form (S : Type 0) : Type 0 where
@@ -35,11 +33,11 @@ abbrev pub buffer_lines : ℕ → List ℕ → List Line
 buffer_lines size out = when (not (eqb (length out) size)) Buffer ∷ []
 
 -- R58: what is answered where nothing is refused, or else the refusal alone
-abbrev pub answered : {S R : Type 0} → (S → R) → (Refusal → R) → S → Verdict → R
-answered fields refused s Fine = fields s
-answered fields refused s (Refuse r) = refused r
+abbrev pub answered : {S : Type 0} → S → Result Unit Refusal → Result S Refusal
+answered s (Ok tt) = Ok s
+answered s (Err r) = Err r
 
 -- R58, R60: what a lent buffer holds after the call: the record's bytes, or where the call refuses its own
-abbrev pub written : List ℕ → List ℕ → Verdict → List ℕ
-written own image Fine = image
-written own image (Refuse r) = own
+abbrev pub written : List ℕ → List ℕ → Result Unit Refusal → List ℕ
+written own image (Ok tt) = image
+written own image (Err r) = own

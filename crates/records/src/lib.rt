@@ -6,16 +6,15 @@ ghost use Rattle.exact.specs.Bytes.{bytes_of, put};
 ghost use Rattle.refusals.specs.Tables.{first_of};
 ghost use Rattle.records.specs.House.{head_lines};
 
-use numbers::{byte_at, put_byte, put_u16, u16_at};
 use refusals::{Refusal, Verdict};
 
 // The first of the refusals 1 and 2 of bytes that should be a record of so many bytes and of that version.
-pub fn head(b: &[u8], size: usize, version: u8) -> Verdict
+pub fn head(b: &[u8], size: usize, version: u8) -> Result<(), Refusal>
     ensures { result ≡ first_of (head_lines size version b.now) }
 {
-    let whole = u16_at(b, 0) as usize + 2;
-    let first = byte_at(b, 2);
-    Verdict::Fine
+    let whole = numbers::at::<u16>(b, 0) as usize + 2;
+    let first: u8 = numbers::at(b, 2);
+    Ok(())
         .also((b.len() != size) | (whole != size), Refusal::Length)
         .also(first != version, Refusal::Version)
 }
@@ -24,6 +23,6 @@ pub fn head(b: &[u8], size: usize, version: u8) -> Verdict
 pub fn put_head(b: &mut [u8], length: u16, version: u8)
     ensures { b.new ≡ put (put b.old 0 (bytes_of 2 length)) 2 (version ∷ []) }
 {
-    put_u16(b, 0, length);
-    put_byte(b, 2, version);
+    numbers::put(b, 0, length);
+    numbers::put(b, 2, version);
 }

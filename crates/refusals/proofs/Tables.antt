@@ -1,4 +1,5 @@
 -- Laws of tables of refusals.
+use Rattle.std.specs.Prelude.{Result, Ok, Err}
 use mathlib.Core.Path.{◌≡◌, refl, sym, ap₂, ◌∙◌}
 use Prim.Native.Nat.{ℕ}
 use mathlib.Core.Bool.{Bool, true, false}
@@ -6,19 +7,17 @@ use mathlib.Core.List.{List, [], ◌∷◌, ◌++◌}
 use native.Mathlib.Omega.{arith}
 use Rattle.refusals.specs.Tables.{Line, when, first_of, also, followed_by}
 use Rattle.refusals.specs.declared.refusal.Refusal.{Refusal}
-use Rattle.refusals.specs.declared.verdict.Verdict.{Verdict}
-use Rattle.refusals.specs.declared.verdict.Verdict.TheVariants.{Fine, Refuse}
 
 -- the lines one after the other, from a verdict on, as `Verdict::also` takes them
-abbrev pub chain : Verdict → List Line → Verdict
+abbrev pub chain : Result Unit Refusal → List Line → Result Unit Refusal
 chain v [] = v
 chain v (when bad why ∷ t) = chain (also v bad why) t
 
-kept : (first : Refusal) (t : List Line) → chain (Refuse first) t ≡ Refuse first
+kept : (first : Refusal) (t : List Line) → chain (Err first) t ≡ Err first
 kept first [] = refl
 kept first (when bad why ∷ t) = kept first t
 
-pub chained : (t : List Line) → chain Fine t ≡ first_of t
+pub chained : (t : List Line) → chain (Ok tt) t ≡ first_of t
 chained [] = refl
 chained (when true r ∷ t) = kept r t
 chained (when false r ∷ t) = chained t
@@ -30,18 +29,18 @@ joined (when true r ∷ t) u = refl
 joined (when false r ∷ t) u = joined t u
 
 -- a verdict after another is that of the two tables
-pub followed : (t u : List Line) {v w verdict : Verdict} → v ≡ first_of t → w ≡ first_of u → verdict ≡ followed_by v w → verdict ≡ first_of (t ++ u)
+pub followed : (t u : List Line) {v w verdict : Result Unit Refusal} → v ≡ first_of t → w ≡ first_of u → verdict ≡ followed_by v w → verdict ≡ first_of (t ++ u)
 followed t u e f both = both ∙ ap₂ followed_by e f ∙ sym (joined t u)
 
-fine_not : {r : Refusal} → Refuse r ≡ Fine → ⊥
+fine_not : {r : Refusal} → ◌≡◌ {A = Result Unit Refusal} (Err r) (Ok tt) → ⊥
 fine_not e = let z : ◌≡◌ {A = ℕ} 0 1 = cc in omega arith
 
-both_fine : (v w : Verdict) → followed_by v w ≡ Fine → (v ≡ Fine) × (w ≡ Fine)
-both_fine Fine w e = (refl, e)
-both_fine (Refuse r) w e = absurd (fine_not e)
+both_fine : (v w : Result Unit Refusal) → followed_by v w ≡ Ok tt → (v ≡ Ok tt) × (w ≡ Ok tt)
+both_fine (Ok tt) w e = (refl, e)
+both_fine (Err r) w e = absurd (fine_not e)
 
 -- two tables are fine only where both are
-pub split : (t u : List Line) → first_of (t ++ u) ≡ Fine → (first_of t ≡ Fine) × (first_of u ≡ Fine)
+pub split : (t u : List Line) → first_of (t ++ u) ≡ Ok tt → (first_of t ≡ Ok tt) × (first_of u ≡ Ok tt)
 split t u e = both_fine (first_of t) (first_of u) (sym (joined t u) ∙ e)
 
 -- no line of the table matches
@@ -49,7 +48,7 @@ abbrev pub NoneOf : List Line → Type 0
 NoneOf [] = Unit {0}
 NoneOf (when bad why ∷ t) = (bad ≡ false) × NoneOf t
 
-pub none : (t : List Line) → first_of t ≡ Fine → NoneOf t
+pub none : (t : List Line) → first_of t ≡ Ok tt → NoneOf t
 none [] e = tt
 none (when true r ∷ t) e = absurd (fine_not e)
 none (when false r ∷ t) e = (refl, none t e)

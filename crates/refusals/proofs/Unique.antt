@@ -3,8 +3,8 @@
 use mathlib.Core.Path.{sym, ◌∙◌}
 use Rattle.exact.specs.One.{OneResult}
 use Rattle.refusals.proofs.refusal.Refusal.number.Reads as number
-use Rattle.refusals.proofs.verdict.Verdict.also.Reads as also
-use Rattle.refusals.proofs.verdict.Verdict.then.Reads as then
+use Rattle.refusals.proofs.verdict.ResultUnitRefusalVerdict.also.Reads as also
+use Rattle.refusals.proofs.verdict.ResultUnitRefusalVerdict.then.Reads as then
 
 pub number_one : (κs : _) (a : _) → OneResult (number.Learnt κs a)
 number_one κs a x y e f p q = p ∙ sym q

@@ -4,36 +4,25 @@ ghost use Rattle.refusals.specs.Tables.{also, followed_by};
 
 use crate::refusal::Refusal;
 
-#[derive(Clone, Copy)]
-pub enum Verdict {
-    Fine,
-    Refuse(Refusal),
-}
-
-impl Verdict {
+pub trait Verdict {
     // One test more; an earlier refusal stands.
-    pub fn also(self, bad: bool, why: Refusal) -> Verdict
-        ensures { result ≡ also self bad why }
-    {
-        match self {
-            Verdict::Refuse(first) => Verdict::Refuse(first),
-            Verdict::Fine => {
-                if bad {
-                    Verdict::Refuse(why)
-                } else {
-                    Verdict::Fine
-                }
-            }
-        }
-    }
+    fn also(self, bad: bool, why: Refusal) -> Self;
 
     // Another verdict after this one; an earlier refusal stands.
-    pub fn then(self, next: Verdict) -> Verdict
+    fn then(self, next: Self) -> Self;
+}
+
+impl Verdict for Result<(), Refusal> {
+    fn also(self, bad: bool, why: Refusal) -> Result<(), Refusal>
+        ensures { result ≡ also self bad why }
+    {
+        self?;
+        if bad { Err(why) } else { Ok(()) }
+    }
+
+    fn then(self, next: Result<(), Refusal>) -> Result<(), Refusal>
         ensures { result ≡ followed_by self next }
     {
-        match self {
-            Verdict::Refuse(earlier) => Verdict::Refuse(earlier),
-            Verdict::Fine => next,
-        }
+        self.and(next)
     }
 }

@@ -1,11 +1,13 @@
-// Whether there is room for a line in a buffer, from a place on.
+// Whether there is room for a line on a page, from its place on.
 #![tactic(auto)]
 
 ghost use Rattle.std.specs.Prelude.{◌≡◌, ◌-◌, length};
 
-// How many bytes there are from a place on.
-pub fn room(out: &[u8], at: usize) -> usize
-    ensures { result ≡ length out.now - at }
+use text::Page;
+
+// How many bytes there are from the place on.
+pub fn room(page: &Page) -> usize
+    ensures { result ≡ length page.now.buffer.now - page.now.at }
 {
-    if at < out.len() { out.len() - at } else { 0 }
+    page.buffer.len().saturating_sub(page.at)
 }

@@ -1,4 +1,4 @@
--- Rows made anew are the rows with one more in a month's; and what that changes.
+-- What one more in the row of a month changes.
 use Prim.Native.Nat.{ℕ, zero, suc, ◌+◌, ◌-◌, ◌≤◌, ◌<◌}
 use mathlib.Core.Path.{◌≡◌, refl, sym, ap, ◌∙◌}
 use mathlib.Core.Bool.{Bool, true, false}
@@ -8,7 +8,6 @@ use borrow.Author.Tests.{eqb-true, eqb-false}
 use lib.Dec.{eqb}
 use lib.ListN.{length, get_or, set, replicate, length-set}
 use lib.Seq.{get_or-set_same, get_or-set_other}
-use Rattle.exact.proofs.Anew.{from, anew}
 use Rattle.sums.specs.Sums.{no_sums, ◌⊞◌}
 use Rattle.sums.specs.Within.{Within}
 use Rattle.sums.specs.declared.Sums.{Sums}
@@ -31,18 +30,6 @@ module _ (rows : List Sums) (month : ℕ) (one : Sums) where
       by_test false e =
           let other : k - 1 ≡ month - 1 → ⊥ = λ same. eqb-false month k e (omega arith) in
           get_or-set_other rows (month - 1) (k - 1) (row_of rows month ⊞ one) no_sums other ∙ sym (⊞-none (row_of rows k))
-
-  -- as the code makes it: the row at a place, January's at place 0
-  abbrev pub row_anew : ℕ → Sums
-  row_anew place = get_or rows place no_sums ⊞ only (eqb month (place + 1)) one
-
-  pub rows_anew : (n : ℕ) → length rows ≡ n → 1 ≤ month → from row_anew n 0 ≡ with_in rows month one
-  rows_anew n long m = anew row_anew no_sums n (with_in rows month one) (length_with_in ∙ long) same
-    where
-      same : (i : ℕ) → i < n → row_anew i ≡ get_or (with_in rows month one) i no_sums
-      same i h =
-          let place : i + 1 - 1 ≡ i = omega arith in
-          sym (rw place at (row_with_in (i + 1) m (omega arith) (omega arith)))
 
 -- the rows together, once one is added at a place
 together-set : (rows : List Sums) (place : ℕ) (one : Sums) → place < length rows → together (set rows place (get_or rows place no_sums ⊞ one)) ≡ together rows ⊞ one

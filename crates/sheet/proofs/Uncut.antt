@@ -1,12 +1,12 @@
 -- No line of an account is cut: each is its pieces, and each piece has so many bytes at most.
+use Rattle.std.specs.Prelude.{Result, Ok, Err}
+use Rattle.refusals.specs.declared.refusal.Refusal.{Refusal}
 use Prim.Native.Nat.{ℕ, ◌≤◌}
 use native.Mathlib.Omega.{arith}
 use lib.ListN.{length, length-append}
 use Rattle.sums.specs.declared.Sums.{Sums}
 use Rattle.account.specs.Closing.{co2e, closing}
 use Rattle.account.specs.declared.Account.{Account}
-use Rattle.account.specs.declared.close.Closed.{Closed}
-use Rattle.account.specs.declared.close.Closed.TheVariants.{Tonnes, Refused as Missing}
 use Rattle.text.proofs.Decimals.{decimal-within}
 use Rattle.lines.proofs.NoneCut.{methane-within}
 use Rattle.sheet.specs.Promises.{SheetUncut}
@@ -22,10 +22,10 @@ unfolding total_line
 total-within a =
     simp length-append (omega (arith, sums_within a.sums (co2e a)))
 
-standing-within : (closed : Closed) → length (standing closed) ≤ 28
+standing-within : (closed : Result ℕ Refusal) → length (standing closed) ≤ 28
 unfolding standing
-standing-within (Tonnes t) = simp length-append (omega (arith, decimal-within t))
-standing-within (Missing r) = omega arith
+standing-within (Ok t) = simp length-append (omega (arith, decimal-within t))
+standing-within (Err r) = omega arith
 
 year-within : (a : Account) → length (year_line a) ≤ 163
 unfolding year_line

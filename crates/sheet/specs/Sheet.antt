@@ -1,10 +1,9 @@
 -- R71, R72: the lines of an account.
-use Rattle.std.specs.Prelude.{ℕ, List, ◌++◌}
+use Rattle.refusals.specs.declared.refusal.Refusal.{Refusal}
+use Rattle.std.specs.Prelude.{Result, Ok, Err, ℕ, List, ◌++◌}
 use Rattle.sums.specs.declared.Sums.{Sums}
 use Rattle.account.specs.Closing.{co2e, closing}
 use Rattle.account.specs.declared.Account.{Account}
-use Rattle.account.specs.declared.close.Closed.{Closed}
-use Rattle.account.specs.declared.close.Closed.TheVariants.{Tonnes, Refused as Missing}
 use Rattle.text.specs.Text.{text, decimal}
 use Rattle.lines.specs.Lines.{methane}
 
@@ -21,9 +20,9 @@ unfoldable pub total_line : Account → List ℕ
 total_line a = text "total " ++ sums_text a.sums (co2e a) ++ text "\n"
 
 -- R72: "`open` becomes `tonnes T` when closed"
-unfoldable pub standing : Closed → List ℕ
-standing (Tonnes t) = text " tonnes " ++ decimal t
-standing (Missing r) = text " open"
+unfoldable pub standing : Result ℕ Refusal → List ℕ
+standing (Ok t) = text " tonnes " ++ decimal t
+standing (Err r) = text " open"
 
 -- R72: the year, and how it stands
 unfoldable pub year_line : Account → List ℕ

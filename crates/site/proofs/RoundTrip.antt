@@ -1,4 +1,6 @@
 -- A site written and read, and read and written.
+use Rattle.std.specs.Prelude.{Ok}
+use Rattle.std.specs.Prelude.{ℤ}
 use Prim.Native.Nat.{ℕ}
 use mathlib.Core.Path.{◌≡◌, refl}
 use mathlib.Core.Bool.{false, ◌||◌}
@@ -16,18 +18,16 @@ use Rattle.exact.proofs.Spelling.{unsigned_signed}
 use Rattle.records.specs.Ranges.{temperature_outside}
 use Rattle.refusals.specs.Tables.{first_of}
 use Rattle.records.specs.RoundTrip.{ReadsBack, WritesBack}
-use Rattle.refusals.specs.declared.verdict.Verdict.TheVariants.{Fine}
 use Rattle.refusals.proofs.Tables.{none}
 use Rattle.records.proofs.RoundTrip.{Sound, reads_back, writes_back}
 use Rattle.site.specs.Rules.{site_lines, temperatures_wrong, flows_wrong}
 use Rattle.site.specs.Record.{site_layout, site, site_form, site_of, site_bytes, read_site, write_site}
 use Rattle.site.specs.Promises.{site_kind}
 use Rattle.site.specs.declared.Site.{Site}
-use Rattle.site.specs.declared.Temperatures.{Temperatures}
-use Rattle.site.specs.declared.SiteRead.TheVariants.{Fields, Refused}
+use Rattle.site.specs.declared.limits.Limits.{Limits}
 
 -- temperatures that are not refused fit their bytes
-fit : (t : Temperatures) → temperatures_wrong t ≡ false → SFits w16 t.lowest × SFits w16 t.highest
+fit : (t : Limits ℤ) → temperatures_wrong t ≡ false → SFits w16 t.lowest × SFits w16 t.highest
 fit t e =
     let low = temperature_outside t.lowest in
     let high = temperature_outside t.highest in
@@ -36,7 +36,7 @@ fit t e =
       inside_fits 499 15000 t.highest (omega arith) (omega arith) both.1,
     )
 
-same : (s : Site) → first_of (site_lines s) ≡ Fine → made site_layout site s ≡ s
+same : (s : Site) → first_of (site_lines s) ≡ Ok tt → made site_layout site s ≡ s
 unfolding site_lines
 same s ok =
     let spec = (none (site_lines s) ok).1.1.1.1.0 in
@@ -58,19 +58,17 @@ same s ok =
 held : (b : List ℕ) → AreBytes b → Holds site_layout (site_of b) b
 held b h = (refl, (refl, (refl, (refl, (refl, (unsigned_signed b h 16, (unsigned_signed b h 18, (refl, (refl, (refl, tt))))))))))
 
-sound : Sound site_form site_lines Fields Refused
+sound : Sound site_form site_lines
 sound = record {
   gap = refl;
   same = same;
   held = held;
-  one = λ s t e. cc;
-  apart = λ s r e. let z : ◌≡◌ {A = ℕ} 0 1 = cc in omega arith;
 }
 
 pub site-reads_back : ReadsBack site_kind
 unfolding site_bytes read_site write_site
-site-reads_back = reads_back site_form site_lines Fields Refused sound
+site-reads_back = reads_back site_form site_lines sound
 
 pub site_writes_back : WritesBack site_kind
 unfolding site_bytes read_site write_site
-site_writes_back = writes_back site_form site_lines Fields Refused sound
+site_writes_back = writes_back site_form site_lines sound

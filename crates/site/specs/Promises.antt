@@ -2,16 +2,12 @@
 use Rattle.records.specs.RoundTrip.{Kind}
 use Rattle.site.specs.Record.{site_form, site_bytes, read_site, write_site}
 use Rattle.site.specs.declared.Site.{Site}
-use Rattle.site.specs.declared.SiteRead.{SiteRead}
-use Rattle.site.specs.declared.SiteRead.TheVariants.{Fields as Accepted}
 
 -- R8, R85: its size, and the calls that read and write it
 abbrev pub site_kind : Kind
 site_kind = record {
   Fields = Site;
-  Answer = SiteRead;
   size = site_form.size;
-  accepted = Accepted;
   image = site_bytes;
   write = write_site;
   read = read_site;

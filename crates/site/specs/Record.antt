@@ -1,14 +1,12 @@
 -- R8: the site record, 30 bytes.
-use Rattle.std.specs.Prelude.{ℕ, List, [], ◌∷◌, ◌++◌}
+use Rattle.refusals.specs.declared.refusal.Refusal.{Refusal}
+use Rattle.std.specs.Prelude.{Result, ℕ, List, [], ◌∷◌, ◌++◌}
 use Rattle.exact.specs.Bytes.{signed, unsigned}
 use Rattle.exact.specs.Layout.{Layout, bytes, Maker}
 use Rattle.refusals.specs.Tables.{Line, first_of}
 use Rattle.records.specs.House.{Form, bytes_by, fields_by, head_lines, buffer_lines, answered}
-use Rattle.refusals.specs.declared.verdict.Verdict.{Verdict}
 use Rattle.site.specs.Rules.{site_lines}
 use Rattle.site.specs.declared.Site.{Site}
-use Rattle.site.specs.declared.SiteRead.{SiteRead}
-use Rattle.site.specs.declared.SiteRead.TheVariants.{Fields, Refused}
 
 -- R8: the table's bytes and fields
 abbrev pub site_layout : Layout Site
@@ -55,9 +53,9 @@ abbrev pub site_head_lines : List ℕ → List Line
 site_head_lines b = head_lines site_form.size site_form.version b
 
 -- R52: "Site: 1 to 9"
-unfoldable pub read_site : List ℕ → SiteRead
-read_site b = answered Fields Refused (site_of b) (first_of (site_head_lines b ++ site_lines (site_of b)))
+unfoldable pub read_site : List ℕ → Result Site Refusal
+read_site b = answered (site_of b) (first_of (site_head_lines b ++ site_lines (site_of b)))
 
 -- R60: "Writing takes fields and a 30- .. byte buffer: 22, then the same field refusals (for a site 3 to 9 ..)"
-unfoldable pub write_site : Site → List ℕ → Verdict
+unfoldable pub write_site : Site → List ℕ → Result Unit Refusal
 write_site s out = first_of (buffer_lines site_form.size out ++ site_lines s)

@@ -1,13 +1,11 @@
 -- R8, R51, R52: the ranges of a site's fields, and its refusals 3 to 9 in their order.
-use Rattle.std.specs.Prelude.{ℕ, ◌*◌, ◌%◌, ◌≡◌, Bool, true, false, ◌||◌, ◌&&◌, not, List, [], ◌∷◌, ltb, leb, eqb}
+use Rattle.std.specs.Prelude.{ℤ, Ok, ℕ, ◌*◌, ◌%◌, ◌≡◌, Bool, true, false, ◌||◌, ◌&&◌, not, List, [], ◌∷◌, ltb, leb, eqb}
 use Rattle.std.specs.Int.Signed.{lt_z}
 use Rattle.exact.specs.Ranges.{above, outside}
 use Rattle.records.specs.Ranges.{temperature_outside, flow_outside}
 use Rattle.refusals.specs.Tables.{Line, when, first_of}
 use Rattle.refusals.specs.declared.refusal.Refusal.TheVariants.{Method, Year, Gwp, Size, Spec, Open, Schedule}
-use Rattle.refusals.specs.declared.verdict.Verdict.TheVariants.{Fine}
-use Rattle.site.specs.declared.Temperatures.{Temperatures}
-use Rattle.site.specs.declared.Flows.{Flows}
+use Rattle.site.specs.declared.limits.Limits.{Limits}
 use Rattle.site.specs.declared.Site.{Site}
 
 -- R1, R8: method "0 default", the tool's Option A
@@ -35,11 +33,11 @@ abbrev pub size_wrong : Site → Bool
 size_wrong s = above 100000 s.height || outside 1 100000 s.diameter
 
 -- R8, R51: 7, "a temperature .. limit outside its range or reversed"
-abbrev pub temperatures_wrong : Temperatures → Bool
+abbrev pub temperatures_wrong : Limits ℤ → Bool
 temperatures_wrong t = temperature_outside t.lowest || temperature_outside t.highest || lt_z t.highest t.lowest
 
 -- R8, R51: 7, ".. or flow limit outside its range or reversed"
-abbrev pub flows_wrong : Flows → Bool
+abbrev pub flows_wrong : Limits ℕ → Bool
 flows_wrong f = flow_outside f.lowest || flow_outside f.highest || ltb f.highest f.lowest
 
 -- R17: "Height at most twice the diameter: open"
@@ -76,4 +74,4 @@ site_lines s =
 
 -- R52, R57: none of 3 to 9
 abbrev pub Examined : Site → Type 0
-Examined s = first_of (site_lines s) ≡ Fine
+Examined s = first_of (site_lines s) ≡ Ok tt

@@ -1,25 +1,20 @@
 // The site record.
 #![tactic(auto)]
 
+mod limits;
+
 ghost use Rattle.std.specs.Prelude.{◌≡◌};
 ghost use Rattle.refusals.specs.Tables.{first_of};
-ghost use Rattle.site.specs.Rules.{temperatures_wrong, flows_wrong, is_open, year_minutes, site_lines};
+ghost use Rattle.site.specs.Rules.{is_open, year_minutes, site_lines};
 
-use refusals::{Refusal, Verdict};
+pub use limits::Limits;
+use refusals::Refusal;
 
 // Tenths of a degree Celsius.
-#[derive(Clone, Copy)]
-pub struct Temperatures {
-    pub lowest: i16,
-    pub highest: i16,
-}
+pub type Temperatures = Limits<i16>;
 
 // Litres a minute.
-#[derive(Clone, Copy)]
-pub struct Flows {
-    pub lowest: u32,
-    pub highest: u32,
-}
+pub type Flows = Limits<u32>;
 
 // Height and diameter are in mm; days is how many are allowed between maintenance.
 #[derive(Clone, Copy)]
@@ -32,12 +27,6 @@ pub struct Site {
     pub temperature: Temperatures,
     pub flow: Flows,
     pub days: u16,
-}
-
-#[derive(Clone, Copy)]
-pub enum SiteRead {
-    Fields(Site),
-    Refused(Refusal),
 }
 
 impl Site {
@@ -67,7 +56,17 @@ impl Site {
 
     pub const HOTTEST: i16 = 15_000;
 
+    pub const TEMPERATURES: Temperatures = Limits {
+        lowest: Site::COLDEST,
+        highest: Site::HOTTEST,
+    };
+
     pub const MOST_FLOW: u32 = 100_000;
+
+    pub const FLOWS: Flows = Limits {
+        lowest: 0,
+        highest: Site::MOST_FLOW,
+    };
 
     pub const LEAST_DAYS_MEASURED: u16 = 1;
 
@@ -107,55 +106,35 @@ impl Site {
     }
 
     // The first of the refusals 3 to 9 of the fields.
-    pub fn verdict(self) -> Verdict
+    pub fn verdict(self) -> Result<(), Refusal>
         ensures { result ≡ first_of (site_lines self) }
     {
         let measured = self.method == Site::MEASURED;
         let temperature = self.temperature;
         let flow = self.flow;
         if !((self.method == Site::DEFAULT) | measured) {
-            return Verdict::Refuse(Refusal::Method);
+            return Err(Refusal::Method);
         }
         if (self.year < Site::FIRST_YEAR) | (Site::LAST_YEAR < self.year) {
-            return Verdict::Refuse(Refusal::Year);
+            return Err(Refusal::Year);
         }
         if (self.gwp < Site::LEAST_GWP) | (Site::MOST_GWP < self.gwp) {
-            return Verdict::Refuse(Refusal::Gwp);
+            return Err(Refusal::Gwp);
         }
         if (Site::MOST_HEIGHT < self.height)
             | ((self.diameter < Site::LEAST_DIAMETER) | (Site::MOST_DIAMETER < self.diameter))
         {
-            return Verdict::Refuse(Refusal::Size);
+            return Err(Refusal::Size);
         }
-        if temperature.wrong() | flow.wrong() {
-            return Verdict::Refuse(Refusal::Spec);
+        if temperature.wrong(Site::TEMPERATURES) | flow.wrong(Site::FLOWS) {
+            return Err(Refusal::Spec);
         }
         if measured & self.is_open() {
-            return Verdict::Refuse(Refusal::Open);
+            return Err(Refusal::Open);
         }
         if (Site::MOST_DAYS < self.days) | (measured & (self.days < Site::LEAST_DAYS_MEASURED)) {
-            return Verdict::Refuse(Refusal::Schedule);
+            return Err(Refusal::Schedule);
         }
-        Verdict::Fine
-    }
-}
-
-impl Temperatures {
-    fn wrong(self) -> bool
-        ensures { result ≡ temperatures_wrong self }
-    {
-        ((self.lowest < Site::COLDEST) | (Site::HOTTEST < self.lowest))
-            | ((self.highest < Site::COLDEST) | (Site::HOTTEST < self.highest))
-            | (self.highest < self.lowest)
-    }
-}
-
-impl Flows {
-    fn wrong(self) -> bool
-        ensures { result ≡ flows_wrong self }
-    {
-        (Site::MOST_FLOW < self.lowest)
-            | (Site::MOST_FLOW < self.highest)
-            | (self.highest < self.lowest)
+        Ok(())
     }
 }

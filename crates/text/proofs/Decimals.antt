@@ -1,13 +1,14 @@
 -- How many digits a number has, and its last digits.
 use Prim.Native.Nat.{ℕ, zero, suc, ◌-◌, ◌*◌, ◌/◌, ◌%◌, ◌^◌, ◌≤◌, ◌<◌}
-use mathlib.Core.Path.{◌≡◌, refl, ap, ◌∙◌}
+use mathlib.Core.Path.{◌≡◌, refl, sym, ap, ◌∙◌}
 use mathlib.Core.List.{List, [], ◌∷◌, ◌++◌, append_assoc}
 use native.Mathlib.Nat.{pow-suc, one-le-pow}
 use native.Mathlib.Decide.{dec_lt}
 use native.Mathlib.Omega.{arith}
 use borrow.Author.Tests.{lt-ltb, le-ltb}
-use lib.ListN.{length, length-append}
+use lib.ListN.{length, set, length-append}
 use Rattle.text.specs.Text.{digit, digits, decimal}
+use Rattle.text.specs.scaffold.Digits.{last}
 
 one_digit : (k n : ℕ) → n < 10 → digits (suc k) n ≡ digit n ∷ []
 unfolding digits
@@ -48,21 +49,6 @@ pub decimal_long : (k n : ℕ) → k ≤ 20 → HasDigits k n → length (decima
 unfolding decimal
 decimal_long k n h has = digits_long 20 k n h has
 
--- the last k digits of n
-unfoldable pub last : ℕ → ℕ → List ℕ
-last zero n = []
-last (suc k) n = last k (n / 10) ++ (digit (n % 10) ∷ [])
-
-pub length_last : (k n : ℕ) → length (last k n) ≡ k
-unfolding last
-length_last zero n = refl
-length_last (suc k) n = length-append (last k (n / 10)) (digit (n % 10) ∷ []) ∙ omega (arith, length_last k (n / 10))
-
-pub last_one : (k n : ℕ) → 1 ≤ k → last k n ≡ last (k - 1) (n / 10) ++ (digit (n % 10) ∷ [])
-unfolding last
-last_one zero n h = absurd (omega arith)
-last_one (suc k) n h = let less : suc k - 1 ≡ k = omega arith in rw less
-
 pub last-two : (k n : ℕ) → 2 ≤ k → last k n ≡ last (k - 2) (n / 100) ++ (digit (n % 100 / 10) ∷ digit (n % 100 % 10) ∷ [])
 unfolding last
 last-two zero n h = absurd (omega arith)
@@ -73,6 +59,17 @@ last-two (suc (suc k)) n h =
     let tens : n / 10 % 10 ≡ n % 100 / 10 = omega arith in
     let ones : n % 10 ≡ n % 100 % 10 = omega arith in
     rw (less, rest, tens, ones, append_assoc)
+
+pub last_first : (l : List ℕ) (n : ℕ) → length l < 2 → 0 < length l → set l (length l - 1) (digit (n % 10)) ≡ last (length l) n
+unfolding last
+last_first [] n one some = absurd (omega arith)
+last_first (x ∷ []) n one some = refl
+last_first (x ∷ y ∷ l) n one some = absurd (omega arith)
+
+pub last_none : (l : List ℕ) (n : ℕ) → length l ≤ 0 → l ≡ last (length l) n
+unfolding last
+last_none [] n h = refl
+last_none (x ∷ l) n h = absurd (omega arith)
 
 digits_last : (k n : ℕ) → digits k n ≡ last (length (digits k n)) n
 unfolding digits last
@@ -88,9 +85,13 @@ digits_last (suc k) n =
     let long : length (rest ++ (digit (n % 10) ∷ [])) ≡ suc (length rest) = length-append rest (digit (n % 10) ∷ []) ∙ omega arith in
     rw long (ap (λ (l : List ℕ). l ++ (digit (n % 10) ∷ [])) (digits_last k (n / 10))))
 
-pub decimal-last : (n : ℕ) → decimal n ≡ last (length (decimal n)) n
+decimal-last : (n : ℕ) → decimal n ≡ last (length (decimal n)) n
 unfolding decimal
 decimal-last n = digits_last 20 n
+
+-- as many of its last digits as it has are all of them
+pub whole : {now : List ℕ} (l : List ℕ) (n : ℕ) → now ≡ last (length l) n → length l ≡ length (decimal n) → now ≡ decimal n
+whole l n e h = e ∙ ap (λ (k : ℕ). last k n) h ∙ sym (decimal-last n)
 
 digits-within : (k n : ℕ) → length (digits k n) ≤ k
 unfolding digits

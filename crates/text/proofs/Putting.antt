@@ -4,10 +4,13 @@ use mathlib.Core.Path.{◌≡◌, refl, sym, ap, ◌∙◌}
 use mathlib.Core.List.{List, [], ◌∷◌, ◌++◌}
 use native.Mathlib.Nat.{add-zero}
 use native.Mathlib.Omega.{arith}
-use lib.ListN.{length, set, length-append}
-use lib.Seq.{set_comm}
+use borrow.Rule.Slice.PartMut.{put_mid}
+use lib.ListN.{length, set, take, drop, length-append, length-drop, take-append-drop}
+use lib.Seq.{length-take-le}
 use Rattle.exact.specs.Bytes.{put}
-use Rattle.text.specs.Places.{PutFrom}
+use Rattle.exact.proofs.Spelling.{put-behind}
+use Rattle.text.specs.Places.{PutFrom, Puts}
+use Rattle.text.specs.declared.Page.{Page}
 
 put-put : (b : List ℕ) (k : ℕ) (xs ys : List ℕ) → put (put b k xs) (k + length xs) ys ≡ put b k (xs ++ ys)
 unfolding put
@@ -16,32 +19,30 @@ put-put b k (x ∷ xs) ys =
     let e : k + length (x ∷ xs) ≡ k + 1 + length xs = omega arith in
     ap (λ (j : ℕ). put (put (set b k x) (k + 1) xs) j ys) e ∙ put-put (set b k x) (k + 1) xs ys
 
--- a byte set behind what is put may be set first
-put-set : (b : List ℕ) (k : ℕ) (xs : List ℕ) (i x : ℕ) → k + length xs ≤ i → set (put b k xs) i x ≡ put (set b i x) k xs
-unfolding put
-put-set b k [] i x h = refl
-put-set b k (y ∷ ys) i x h =
-    put-set (set b k y) (k + 1) ys i x (omega arith)
-    ∙ ap (λ (l : List ℕ). put l (k + 1) ys) (set_comm b k i y x (λ e. omega arith))
+-- a part of the buffer, written over as a whole
+pub put_part : (b xs : List ℕ) (at k : ℕ) → at + k ≤ length b → length xs ≡ k → put_mid at k b xs ≡ put b at xs
+put_part b xs at k h e =
+    let rest = drop at b in
+    let room : k ≤ length rest = simp length-drop (omega arith) in
+    let same : length (take k rest) ≡ length xs = length-take-le k rest room ∙ sym e in
+    let split : take at b ++ (take k rest ++ drop k rest) ≡ b = ap (λ (l : List ℕ). take at b ++ l) (take-append-drop k rest) ∙ take-append-drop at b in
+    let front : length (take at b) ≡ at = length-take-le at b (omega arith) in
+    sym (put-behind xs (take at b) (take k rest) (drop k rest) same) ∙ (λ i. put (split i) (front i) xs)
 
--- one byte behind what is put may be set first, and so may two
-pub put_end : (b : List ℕ) (k : ℕ) (xs : List ℕ) (x : ℕ) → put b k (xs ++ (x ∷ [])) ≡ put (set b (k + length xs) x) k xs
-unfolding put
-put_end b k xs x = sym (put-put b k xs (x ∷ [])) ∙ put-set b k xs (k + length xs) x (omega arith)
-
-pub put_pair : (b : List ℕ) (k : ℕ) (xs : List ℕ) (x y : ℕ)
-    → put b k (xs ++ (x ∷ y ∷ [])) ≡ put (set (set b (k + length xs) x) (k + length xs + 1) y) k xs
-unfolding put
-put_pair b k xs x y =
-    let i = k + length xs in
-    sym (put-put b k xs (x ∷ y ∷ []))
-    ∙ ap (λ (l : List ℕ). set l (i + 1) y) (put-set b k xs i x (omega arith))
-    ∙ put-set (set b i x) k xs (i + 1) y (omega arith)
-
--- a piece, and one more behind it
-pub onward : {b b' b'' xs ys : List ℕ} {at next end : ℕ} → PutFrom b at xs b' next → PutFrom b' next ys b'' end → PutFrom b at (xs ++ ys) b'' end
-onward {b = b} {xs = xs} {ys = ys} {at = at} p q =
+-- a piece on a page, and one more behind it
+pub onwards : {a b c : Page} {xs ys : List ℕ} → Puts a xs b → Puts b ys c → Puts a (xs ++ ys) c
+onwards {a = a} {xs = xs} {ys = ys} p q =
     record {
-      holds = q.holds ∙ rw (p.holds, p.place) (put-put b at xs ys);
+      holds = q.holds ∙ rw (p.holds, p.place) (put-put a.buffer.now a.at xs ys);
       place = rw (length-append xs ys) (omega (arith, p.place, q.place));
+      long = q.long ∙ p.long;
+      same_reference = q.same_reference ∙ p.same_reference;
     }
+
+-- what is put on a page stands in its buffer
+pub from_page : {a b : Page} {xs : List ℕ} → Puts a xs b → PutFrom a.buffer.now a.at xs b.buffer.now b.at
+from_page p = record { holds = p.holds; place = p.place }
+
+pub nothing : (a : Page) → Puts a [] a
+unfolding put
+nothing a = record { holds = refl; place = omega arith; long = refl; same_reference = refl }

@@ -1,3 +1,4 @@
 pub mod Places
 pub mod Promises
 pub mod Text
+pub mod scaffold

@@ -1,86 +1,61 @@
-// Text and numbers put into a buffer, each after the other: a call answers the place after what it put.
+// Text and numbers put into a buffer, each after the other.
 #![tactic(auto)]
 
 ghost use Rattle.std.specs.Prelude.{◌≡◌, ◌+◌, ◌≤◌, length};
-ghost use Rattle.exact.specs.Bytes.{put};
-ghost use Rattle.text.specs.Places.{PutFrom};
+ghost use Rattle.text.specs.Places.{Puts};
 ghost use Rattle.text.specs.Text.{decimal};
+ghost use Rattle.text.specs.scaffold.Digits.{last};
+
+// A buffer that is written from a place on, and the place after what was put last.
+#[derive(Drop)]
+pub struct Page<'a> {
+    pub buffer: &'a mut [u8],
+    pub at: usize,
+}
+
+impl Page<'_> {
+    #[tactic(auto, using(crate::proofs::Putting::put_part))]
+    pub fn text(&mut self, words: &[u8])
+        requires { self.old.at + length words.now ≤ length self.old.buffer.now }
+        ensures { Puts self.old words.now self.new }
+    {
+        let end = self.at + words.len();
+        self.buffer[self.at..end].copy_from_slice(words);
+        self.at = end;
+    }
+
+    #[tactic(auto, using(crate::proofs::Putting::put_part, crate::proofs::Decimals::whole))]
+    pub fn decimal(&mut self, n: u64)
+        requires { self.old.at + 20 ≤ length self.old.buffer.now }
+        ensures put_from { Puts self.old (decimal n) self.new }
+        ensures within { self.new.at ≤ self.old.at + 20 }
+    {
+        let end = self.at + places(n);
+        put_digits(&mut self.buffer[self.at..end], n);
+        self.at = end;
+    }
+}
 
 // How many digits n has in decimal.
 fn places(n: u64) -> usize
-    ensures { result ≡ length (decimal n) }
+    ensures value { result ≡ length (decimal n) }
+    ensures within { result ≤ 20 }
 {
-    let mut k: usize = 1;
-    let mut limit: u64 = 10;
-    while k < 19 {
-        if n < limit {
-            return k;
-        }
-        limit = limit * 10;
-        k = k + 1;
-    }
-    if n < limit { 19 } else { 20 }
-}
-
-// The digits of a number of 32 bits, as each minute's are: two at a time, from the last, for half the divisions.
-fn put_short(out: &mut [u8], at: usize, n: u32, count: usize)
-    requires at_in_bounds { at + 20 ≤ length out.old }
-    requires count_value { count ≡ length (decimal n) }
-    ensures { out.new ≡ put out.old at (decimal n) }
-{
-    let mut left = count;
-    let mut rest = n;
-    while 2 <= left {
-        left = left - 2;
-        let pair = rest % 100;
-        out[at + left] = 48 + (pair / 10) as u8;
-        out[at + left + 1] = 48 + (pair % 10) as u8;
-        rest = rest / 100;
-    }
-    if left == 1 {
-        out[at] = 48 + (rest % 10) as u8;
+    match n.checked_ilog10() {
+        Some(power) => power as usize + 1,
+        None => 1,
     }
 }
 
-// The digits of any number, as a year's sums have them: one at a time, from the last.
-fn put_long(out: &mut [u8], at: usize, n: u64, count: usize)
-    requires at_in_bounds { at + 20 ≤ length out.old }
-    requires count_value { count ≡ length (decimal n) }
-    ensures { out.new ≡ put out.old at (decimal n) }
+// The last digits of n, as many as there is room for: two at a time, for half the divisions.
+fn put_digits(digits: &mut [u8], n: u64)
+    ensures { digits.new ≡ last (length digits.old) n }
 {
-    let mut left = count;
-    let mut rest = n;
-    while 1 <= left {
-        left = left - 1;
-        out[at + left] = 48 + (rest % 10) as u8;
-        rest = rest / 10;
+    if let Some((front, pair)) = digits.split_last_chunk_mut::<2>() {
+        let last = (n % 100) as u8;
+        *pair = [b'0' + last / 10, b'0' + last % 10];
+        put_digits(front, n / 100);
+    } else if let Some(one) = digits.last_mut() {
+        *one = b'0' + (n % 10) as u8;
     }
-}
-
-pub fn put_decimal(out: &mut [u8], at: usize, n: u64) -> usize
-    requires { at + 20 ≤ length out.old }
-    ensures put_from { PutFrom out.old at (decimal n) out.new result }
-    ensures within { result ≤ at + 20 }
-{
-    let count = places(n);
-    let next = at + count;
-    if n < 4_294_967_296 {
-        put_short(out, at, n as u32, count);
-        next
-    } else {
-        put_long(out, at, n, count);
-        next
-    }
-}
-
-pub fn put_text(out: &mut [u8], at: usize, text: &[u8]) -> usize
-    requires { at + length text.now ≤ length out.old }
-    ensures { PutFrom out.old at text.now out.new result }
-{
-    let mut i: usize = 0;
-    while i < text.len() {
-        out[at + i] = text[i];
-        i = i + 1;
-    }
-    at + i
 }

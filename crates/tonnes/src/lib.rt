@@ -9,11 +9,12 @@ ghost use Rattle.tonnes.specs.Tonnes.{in_tonnes};
 pub const TONNE: u64 = 1_000_000_000;
 
 // Whole tonnes, rounded up.
+#[tactic(auto, unfolding(exact::specs::Rounding::ceil_div))]
 pub fn whole_tonnes(mg: u64) -> u64
     requires { mg < 2 ^ 53 }
     ensures { result ≡ ceil_div mg 1000000000 }
 {
-    (mg + (TONNE - 1)) / TONNE
+    mg.div_ceil(TONNE)
 }
 
 // Below 2^53 a whole number is converted without loss; the division is the one rounding.

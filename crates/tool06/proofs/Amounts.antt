@@ -1,4 +1,6 @@
 -- What a minute emits and destroys, exactly and rounded, from the whole nanograms of the code.
+use Rattle.std.specs.Prelude.{Result, Ok, Err}
+use Rattle.refusals.specs.declared.refusal.Refusal.{Refusal}
 use mathlib.Core.Path.{◌≡◌, refl, sym, ap, ◌∙◌}
 use mathlib.Core.Bool.{Bool, true, false}
 use Prim.Native.Nat.{ℕ, ◌-◌, ◌*◌, ◌/◌, ◌≤◌, ◌<◌}
@@ -12,14 +14,11 @@ use Rattle.exact.proofs.Ratios.{ratio-≡, ratio-⊗, ratio-⊗-whole, one_minus
 use Rattle.exact.proofs.RoundedFractions.{up_ratio, down_ratio}
 use Rattle.exact.proofs.Rounding.{ceil_ceil, floor_sub_ceil}
 use Rattle.refusals.specs.Tables.{first_of}
-use Rattle.refusals.specs.declared.verdict.Verdict.{Verdict}
-use Rattle.refusals.specs.declared.verdict.Verdict.TheVariants.{Fine, Refuse}
 use Rattle.records.specs.House.{answered}
 use Rattle.site.specs.Rules.{Examined}
 use Rattle.site.specs.declared.Site.{Site}
 use Rattle.minute.specs.Rules.{has_gas}
 use Rattle.minute.specs.declared.Minute.{Minute}
-use Rattle.tool06.specs.declared.figures.Judged.TheVariants.{Accepted, Refused}
 use Rattle.tool06.specs.declared.loss.Loss.{Loss}
 use Rattle.tool06.specs.declared.loss.Loss.TheVariants.{Share, Measured}
 use Rattle.tool06.specs.Figures.{mg, emitted_by, destroyed_by, applied, exact_fed, exact_emitted, exact_destroyed, figures}
@@ -169,6 +168,6 @@ pub same_judged : (m : Masses) → Positive m → (disordered : Bool) (s : Site)
 unfolding judged judged_ng
 same_judged m pos disordered s n in_time examined = by-verdict (first_of (judged_lines disordered s n)) refl
   where
-    by-verdict : (v : Verdict) → first_of (judged_lines disordered s n) ≡ v → answered Accepted Refused (figures_ng s n in_time) v ≡ answered Accepted Refused (figures m s n in_time) v
-    by-verdict Fine fine = ap Accepted (same_figures m pos (facts disordered s n examined fine) in_time)
-    by-verdict (Refuse r) refused = refl
+    by-verdict : (v : Result Unit Refusal) → first_of (judged_lines disordered s n) ≡ v → answered (figures_ng s n in_time) v ≡ answered (figures m s n in_time) v
+    by-verdict (Ok tt) fine = ap Ok (same_figures m pos (facts disordered s n examined fine) in_time)
+    by-verdict (Err r) refused = refl

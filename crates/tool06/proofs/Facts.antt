@@ -1,4 +1,5 @@
 -- What the refusals leave: the facts of a minute that is accepted at a site.
+use Rattle.std.specs.Prelude.{Ok}
 use mathlib.Core.Path.{◌≡◌, refl}
 use mathlib.Core.Logic.{⊎_elim}
 use mathlib.Core.Bool.{Bool, true, false, ◌&&◌, ◌||◌, not}
@@ -10,7 +11,6 @@ use Rattle.exact.specs.Ranges.{above}
 use Rattle.exact.proofs.Bools.{and_false, or_false, either, other}
 use Rattle.exact.proofs.Rounding.{mul-within}
 use Rattle.refusals.specs.Tables.{first_of}
-use Rattle.refusals.specs.declared.verdict.Verdict.TheVariants.{Fine}
 use Rattle.refusals.proofs.Tables.{split, none}
 use Rattle.site.specs.Rules.{is_default, is_measured, site_lines, Examined}
 use Rattle.site.specs.declared.Site.{Site}
@@ -60,7 +60,7 @@ readings present o m e =
     within : (a b : ℕ) → (above a o || above b m) ≡ false → (o ≤ a) × (m ≤ b)
     within a b w = let e = or_false (above a o) (above b m) w in (ltb-false a o e.0, ltb-false b m e.1)
 
-pub facts : (disordered : Bool) (s : Site) (n : Minute) → Examined s → first_of (judged_lines disordered s n) ≡ Fine → Facts s n
+pub facts : (disordered : Bool) (s : Site) (n : Minute) → Examined s → first_of (judged_lines disordered s n) ≡ Ok tt → Facts s n
 unfolding site_lines minute_lines
 facts disordered s n examined fine =
     let all = split (minute_lines disordered n) (oxygen_lines s n) fine in
@@ -80,7 +80,7 @@ facts disordered s n examined fine =
     }
 
 -- 13 was not given
-pub in_order : (disordered : Bool) (s : Site) (n : Minute) → first_of (judged_lines disordered s n) ≡ Fine → disordered ≡ false
+pub in_order : (disordered : Bool) (s : Site) (n : Minute) → first_of (judged_lines disordered s n) ≡ Ok tt → disordered ≡ false
 unfolding minute_lines
 in_order disordered s n fine =
     (none (minute_lines disordered n) (split (minute_lines disordered n) (oxygen_lines s n) fine).0).1.0

@@ -1,6 +1,4 @@
 // What one minute is worth.
-use refusals::Refusal;
-
 // The rule by its number, and methane in mg.
 #[derive(Clone, Copy)]
 pub struct Figures {
@@ -8,12 +6,6 @@ pub struct Figures {
     pub fed: u64,
     pub emitted: u64,
     pub destroyed: u64,
-}
-
-#[derive(Clone, Copy)]
-pub enum Judged {
-    Accepted(Figures),
-    Refused(Refusal),
 }
 
 impl Figures {

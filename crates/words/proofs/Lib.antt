@@ -1,8 +1,7 @@
-pub mod Between
-pub mod Decimals
-pub mod Filling
-pub mod Pairs
-pub mod Signs
-pub mod Spaces
 pub mod Unique
 pub mod Walking
+pub mod Spaces
+pub mod Decimals
+pub mod Signs
+pub mod Pairs
+pub mod Filling

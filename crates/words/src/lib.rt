@@ -6,5 +6,5 @@ mod number;
 mod place;
 
 pub use hex::put_bytes;
-pub use number::{Number, number_in, signed_in};
+pub use number::{number_in, signed_in};
 pub use place::end_of_word;

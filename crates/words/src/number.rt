@@ -1,78 +1,42 @@
 // Numbers in decimal: digits, at least one, and nothing else but a sign where one may stand.
-ghost use Rattle.std.specs.Prelude.{◌≡◌, true, ◌-◌, ◌≤◌};
-ghost use Rattle.words.specs.Numbers.{is_digit, number_in, negative, signed_of};
+ghost use Rattle.std.specs.Prelude.{Some, None, ◌≡◌, ◌-◌, cond};
+ghost use Rattle.words.specs.Numbers.{is_digit, number_in, signed_of};
 
-#[derive(Clone, Copy)]
-pub enum Number {
-    Is(u32),
-    Wrong,
-}
-
-const MINUS: u8 = 45;
-
-fn is_digit(c: u8) -> bool
-    ensures { result ≡ is_digit c }
-{
-    (48 <= c) & (c <= 57)
-}
+const MINUS: u8 = b'-';
 
 // The number that a digit spells.
-fn units(c: u8) -> u64
-    requires { is_digit c ≡ true }
-    ensures { (result ≡ c - 48) × (result ≤ 9) }
+fn units(c: u8) -> Option<u32>
+    ensures { result ≡ cond (is_digit c) (Some (c - 48)) None }
 {
-    (c - 48) as u64
+    (c as char).to_digit(10)
 }
 
 // The number that the word spells, where it is at most so much.
-pub fn number_in(word: &[u8], most: u32) -> Number
+pub fn number_in(word: &[u8], most: u32) -> Option<u32>
     ensures { result ≡ number_in most word.now }
 {
-    if word.len() == 0 {
-        return Number::Wrong;
+    if word.is_empty() {
+        return None;
     }
     let limit = most as u64;
     let mut sum: u64 = 0;
-    let mut i: usize = 0;
-    while i < word.len() {
-        let c = word[i];
-        if !is_digit(c) {
-            return Number::Wrong;
-        }
-        sum = sum * 10 + units(c);
+    for c in word {
+        sum = sum * 10 + units(*c)? as u64;
         if limit < sum {
-            return Number::Wrong;
+            return None;
         }
-        i = i + 1;
     }
-    Number::Is(sum as u32)
-}
-
-fn negative(n: Number) -> Number
-    ensures { result ≡ negative n }
-{
-    match n {
-        Number::Is(n) => {
-            if n <= 65536 {
-                Number::Is((65536 - n) % 65536)
-            } else {
-                Number::Wrong
-            }
-        }
-        Number::Wrong => Number::Wrong,
-    }
+    Some(sum as u32)
 }
 
 // A number from -32768 to 32767, as two bytes hold it.
-pub fn signed_in(word: &[u8]) -> Number
+pub fn signed_in(word: &[u8]) -> Option<u32>
     ensures { result ≡ signed_of word.now }
 {
-    if 0 < word.len() {
-        if word[0] == MINUS {
-            let digits = &word[1..];
-            return negative(number_in(digits, 32768));
-        }
+    let (sign, digits) = word.split_first()?;
+    if *sign != MINUS {
         return number_in(word, 32767);
     }
-    Number::Wrong
+    let below = 65536_u32.checked_sub(number_in(digits, 32768)?)?;
+    Some(below % 65536)
 }

@@ -1,16 +1,15 @@
 -- R67: the worked minutes, which are the examples marked P.
-use Rattle.std.specs.Prelude.{ℕ, ◌+◌, ◌≡◌, true, false, List, [], ◌∷◌, map, pos}
+use Rattle.tool06.specs.declared.figures.Figures.{Figures}
+use Rattle.refusals.specs.declared.refusal.Refusal.{Refusal}
+use Rattle.std.specs.Prelude.{Result, Ok, Err, ℕ, ◌+◌, ◌≡◌, true, false, List, [], ◌∷◌, map, pos}
 use Rattle.site.specs.Rules.{site_lines}
 use Rattle.site.specs.declared.Site.{Site}
 use Rattle.minute.specs.declared.gas.Gas.{Gas}
 use Rattle.minute.specs.declared.Minute.{Minute}
 use Rattle.refusals.specs.Tables.{first_of}
 use Rattle.refusals.specs.declared.refusal.Refusal.TheVariants.{Oxygen}
-use Rattle.refusals.specs.declared.verdict.Verdict.TheVariants.{Fine}
 use Rattle.tool06.specs.Judged.{judged}
 use Rattle.tool06.specs.Tool.{Masses, Positive}
-use Rattle.tool06.specs.declared.figures.Judged.{Judged}
-use Rattle.tool06.specs.declared.figures.Judged.TheVariants.{Accepted, Refused}
 use Rattle.worked.specs.declared.Example.{Example}
 
 -- R67: a flare 1,000 mm wide of this method (0 default, 1 measured) and height in mm
@@ -78,11 +77,11 @@ abbrev G : Gas
 G = gas 600000 400000 0 0
 
 -- R67: the rule, and fed, emitted and destroyed in mg
-abbrev pub answers : ℕ → ℕ → ℕ → ℕ → Judged
-answers rule fed emitted destroyed = Accepted (record { rule = rule; fed = fed; emitted = emitted; destroyed = destroyed })
+abbrev pub answers : ℕ → ℕ → ℕ → ℕ → Result Figures Refusal
+answers rule fed emitted destroyed = Ok (record { rule = rule; fed = fed; emitted = emitted; destroyed = destroyed })
 
 -- R67: a line of the table: a site, a minute, and what it answers
-abbrev pub line : Site → Minute → Judged → Example
+abbrev pub line : Site → Minute → Result Figures Refusal → Example
 line site minute answer = record { site = site; minute = minute; answer = answer }
 
 -- R67: G with f 100 where a line says no other gas or f; "fed 429,600 mg; answers are emitted, destroyed"
@@ -111,11 +110,11 @@ table =
     -- "CH4 100,000, O2 200,000, N2 700,000, measured: S is 0, accepted."
     ∷ line tall_measured (lit 1000 (gas 100000 0 200000 700000) 100) (answers 9 71600 140 71460)
     -- "O2 200,001, N2 699,999: OXYGEN."
-    ∷ line tall_measured (lit 1000 (gas 100000 0 200001 699999) 100) (Refused Oxygen)
+    ∷ line tall_measured (lit 1000 (gas 100000 0 200001 699999) 100) (Err Oxygen)
     ∷ []
 
 -- R67: each line's site is not refused, and its minute, in order and with maintenance in time, answers what the line says, for any positive masses
 abbrev pub TableHolds : Type 0
 TableHolds =
-    (map (λ x. first_of (site_lines x.site)) table ≡ map (λ x. Fine) table)
+    (map (λ x. first_of (site_lines x.site)) table ≡ map (λ x. (Ok tt)) table)
     × ((m : Masses) → Positive m → map (λ x. judged m false x.site x.minute true) table ≡ map (λ x. x.answer) table)

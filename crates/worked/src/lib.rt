@@ -7,14 +7,14 @@ ghost use Rattle.worked.specs.Table.{flare, gas, reading, answers, line, table};
 use minute::{Gas, Minute, Readings};
 use refusals::Refusal;
 use site::{Flows, Site, Temperatures};
-use tool06::{Figures, Judged};
+use tool06::Figures;
 
 // A minute at a site, with maintenance in time, and what it answers.
 #[derive(Clone, Copy)]
 pub struct Example {
     pub site: Site,
     pub minute: Minute,
-    pub answer: Judged,
+    pub answer: Result<Figures, Refusal>,
 }
 
 // A flare 1,000 mm wide.
@@ -73,10 +73,10 @@ fn reading(flags: u8, litres: u32, gas: Gas, methane: u32) -> Minute
     }
 }
 
-fn answers(rule: u8, fed: u64, emitted: u64, destroyed: u64) -> Judged
+fn answers(rule: u8, fed: u64, emitted: u64, destroyed: u64) -> Result<Figures, Refusal>
     ensures { result ≡ answers rule fed emitted destroyed }
 {
-    Judged::Accepted(Figures {
+    Ok(Figures {
         rule: rule,
         fed: fed,
         emitted: emitted,
@@ -84,7 +84,7 @@ fn answers(rule: u8, fed: u64, emitted: u64, destroyed: u64) -> Judged
     })
 }
 
-fn line(site: Site, minute: Minute, answer: Judged) -> Example
+fn line(site: Site, minute: Minute, answer: Result<Figures, Refusal>) -> Example
     ensures { result ≡ line site minute answer }
 {
     Example {
@@ -151,6 +151,6 @@ pub fn examples() -> [Example; 12]
             even,
             answers(Figures::MEASURED, 71_600, 140, 71_460),
         ),
-        line(tall_measured, airy, Judged::Refused(Refusal::Oxygen)),
+        line(tall_measured, airy, Err(Refusal::Oxygen)),
     ]
 }

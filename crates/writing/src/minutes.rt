@@ -8,19 +8,14 @@ use minute::Minute;
 use refusals::{Refusal, Verdict};
 
 // Puts the record into the buffer, or answers 22 or the first of the refusals 12 to 18 and leaves the buffer as it was.
-pub fn write_minute(minute: Minute, out: &mut [u8]) -> Verdict
+pub fn write_minute(minute: Minute, out: &mut [u8]) -> Result<(), Refusal>
     ensures { (result ≡ write_minute minute out.old) × (out.new ≡ written out.old (minute_bytes minute) result) }
 {
-    let buffer = Verdict::Fine.also(out.len() != Minute::BYTES, Refusal::Buffer);
-    let fields = minute.alone();
-    let verdict = buffer.then(fields);
-    match verdict {
-        Verdict::Refuse(r) => Verdict::Refuse(r),
-        Verdict::Fine => {
-            fill(minute, out);
-            Verdict::Fine
-        }
-    }
+    Ok(())
+        .also(out.len() != Minute::BYTES, Refusal::Buffer)
+        .then(minute.alone())?;
+    fill(minute, out);
+    Ok(())
 }
 
 fn fill(minute: Minute, out: &mut [u8])
@@ -28,10 +23,10 @@ fn fill(minute: Minute, out: &mut [u8])
     ensures { out.new ≡ minute_bytes minute }
 {
     records::put_head(out, (Minute::BYTES - 2) as u16, Minute::VERSION);
-    numbers::put_u32(out, 3, minute.number);
-    numbers::put_byte(out, 7, minute.flags);
-    numbers::put_u16(out, 8, numbers::unsigned(minute.temperature));
-    numbers::put_u32(out, 10, minute.litres);
+    numbers::put(out, 3, minute.number);
+    numbers::put(out, 7, minute.flags);
+    numbers::put(out, 8, minute.temperature);
+    numbers::put(out, 10, minute.litres);
     fill_gas(minute, out);
     fill_exhaust(minute, out);
 }
@@ -40,20 +35,20 @@ fn fill_gas(minute: Minute, out: &mut [u8])
     ensures { out.new ≡ filled (take 8 (drop 4 minute_layout)) minute out.old }
 {
     let gas = minute.gas;
-    numbers::put_u32(out, 14, gas.ch4);
-    numbers::put_u32(out, 18, gas.co);
-    numbers::put_u32(out, 22, gas.co2);
-    numbers::put_u32(out, 26, gas.o2);
-    numbers::put_u32(out, 30, gas.h2);
-    numbers::put_u32(out, 34, gas.h2s);
-    numbers::put_u32(out, 38, gas.nh3);
-    numbers::put_u32(out, 42, gas.n2);
+    numbers::put(out, 14, gas.ch4);
+    numbers::put(out, 18, gas.co);
+    numbers::put(out, 22, gas.co2);
+    numbers::put(out, 26, gas.o2);
+    numbers::put(out, 30, gas.h2);
+    numbers::put(out, 34, gas.h2s);
+    numbers::put(out, 38, gas.nh3);
+    numbers::put(out, 42, gas.n2);
 }
 
 fn fill_exhaust(minute: Minute, out: &mut [u8])
     ensures { out.new ≡ filled (drop 12 minute_layout) minute out.old }
 {
     let exhaust = minute.exhaust;
-    numbers::put_u32(out, 46, exhaust.oxygen);
-    numbers::put_u32(out, 50, exhaust.methane);
+    numbers::put(out, 46, exhaust.oxygen);
+    numbers::put(out, 50, exhaust.methane);
 }

@@ -8,19 +8,14 @@ use refusals::{Refusal, Verdict};
 use site::Site;
 
 // Puts the record into the buffer, or answers 22 or the first of the refusals 3 to 9 and leaves the buffer as it was.
-pub fn write_site(site: Site, out: &mut [u8]) -> Verdict
+pub fn write_site(site: Site, out: &mut [u8]) -> Result<(), Refusal>
     ensures { (result ≡ write_site site out.old) × (out.new ≡ written out.old (site_bytes site) result) }
 {
-    let buffer = Verdict::Fine.also(out.len() != Site::BYTES, Refusal::Buffer);
-    let fields = site.verdict();
-    let verdict = buffer.then(fields);
-    match verdict {
-        Verdict::Refuse(r) => Verdict::Refuse(r),
-        Verdict::Fine => {
-            fill(site, out);
-            Verdict::Fine
-        }
-    }
+    Ok(())
+        .also(out.len() != Site::BYTES, Refusal::Buffer)
+        .then(site.verdict())?;
+    fill(site, out);
+    Ok(())
 }
 
 fn fill(site: Site, out: &mut [u8])
@@ -28,13 +23,13 @@ fn fill(site: Site, out: &mut [u8])
     ensures { out.new ≡ site_bytes site }
 {
     records::put_head(out, (Site::BYTES - 2) as u16, Site::VERSION);
-    numbers::put_byte(out, 3, site.method);
-    numbers::put_u16(out, 4, site.year);
-    numbers::put_u16(out, 6, site.gwp);
-    numbers::put_u32(out, 8, site.height);
-    numbers::put_u32(out, 12, site.diameter);
+    numbers::put(out, 3, site.method);
+    numbers::put(out, 4, site.year);
+    numbers::put(out, 6, site.gwp);
+    numbers::put(out, 8, site.height);
+    numbers::put(out, 12, site.diameter);
     fill_limits(site, out);
-    numbers::put_u16(out, 28, site.days);
+    numbers::put(out, 28, site.days);
 }
 
 fn fill_limits(site: Site, out: &mut [u8])
@@ -42,8 +37,8 @@ fn fill_limits(site: Site, out: &mut [u8])
 {
     let temperature = site.temperature;
     let flow = site.flow;
-    numbers::put_u16(out, 16, numbers::unsigned(temperature.lowest));
-    numbers::put_u16(out, 18, numbers::unsigned(temperature.highest));
-    numbers::put_u32(out, 20, flow.lowest);
-    numbers::put_u32(out, 24, flow.highest);
+    numbers::put(out, 16, temperature.lowest);
+    numbers::put(out, 18, temperature.highest);
+    numbers::put(out, 20, flow.lowest);
+    numbers::put(out, 24, flow.highest);
 }

@@ -8,5 +8,5 @@ use Rattle.host.proofs.fill.Goals as goal
 pub returns : goal.returns
 unfolding answer_bytes
 returns c =
-    rw (c.put_byte.ensures, c.put_u64-3.ensures, c.put_u64-2.ensures, c.put_u64.ensures)
+    rw (c.put-4.ensures, c.put-3.ensures, c.put-2.ensures, c.put.ensures)
     (filled-laid answer_layout c.args.figures [] c.args.answer.now 25 refl (omega (arith, c.requires)))

@@ -7,17 +7,17 @@ use Rattle.month_line.proofs.put_month.Goals as goal
 
 pub put_row-requires : goal.put_row-requires
 put_row-requires c =
-    let row = given-row c.requires c.args.month _ (sym c.month.ensures ∙ c.in-Is.is) in
-    record { at_in_bounds = omega (arith, c.room.ensures, c.if-room-ge-LONGEST.true); month_le_minutes_most = (row.month_most, row.minutes_most_lem, row.gas_most) }
+    let row = given-row c.requires c.args.month _ (sym c.month.ensures ∙ c.in-Ok.is) in
+    record { at_in_bounds = omega arith; month_le_minutes_most = (row.month_most, row.minutes_most_lem, row.gas_most) }
 
 pub returns-then-room-ge-LONGEST : goal.returns-then-room-ge-LONGEST
 unfolding month_line
 returns-then-room-ge-LONGEST c =
-    rw (sym c.month.ensures ∙ c.in-Is.is) (there (omega (arith, c.room.ensures, c.if-room-ge-LONGEST.true)) c.put_row.ensures)
+    rw (sym c.month.ensures ∙ c.in-Ok.is) (there (omega arith) c.put_row.ensures)
 
 pub returns-else-room-ge-LONGEST : goal.returns-else-room-ge-LONGEST
-returns-else-room-ge-LONGEST c = nowhere _ _ _ (let r = c.room.ensures in omega arith)
+returns-else-room-ge-LONGEST c = nowhere _ _ (omega arith)
 
-pub returns-in-Refused : goal.returns-in-Refused
+pub returns-in_default : goal.returns-in_default
 unfolding month_line
-returns-in-Refused c = no_line _ _ (rw (sym c.month.ensures ∙ c.in-Refused.is) refl)
+returns-in_default c = no_line _ (rw (sym c.month.ensures ∙ c.in_default.is) refl)

@@ -1,28 +1,28 @@
-use Prim.Native.Nat.{◌≤◌}
+use Prim.Native.Nat.{◌+◌, ◌≤◌}
 use native.Mathlib.Omega.{arith}
-use Rattle.text.specs.Places.{PutFrom}
-use Rattle.text.proofs.Putting.{onward}
-use Rattle.room.proofs.Placing.{whole, at_start}
+use Rattle.text.specs.Places.{Puts}
+use Rattle.text.proofs.Putting.{onwards}
+use Rattle.room.proofs.Placing.{whole}
 use Rattle.lines.specs.Lines.{last_line}
 use Rattle.lines.proofs.NoneCut.{last_within}
 use Rattle.monthly.specs.Monthly.{month_sheet}
 use Rattle.monthly.proofs.put_sheet.Goals as goal
-use Rattle.monthly.proofs.put_sheet.Goals.{After-put_last-at}
+use Rattle.monthly.proofs.put_sheet.Goals.{After-put_last}
 
--- the months' lines, and behind them that of the refusal
-module _ (p : After-put_last-at) where
-  last : PutFrom p.put_months-at.new.out p.put_months-at.result (last_line p.args.account.sums.minutes p.args.verdict) p.put_last-at.new.out p.put_last-at.result
-  last = whole (omega (arith, p.put_months-at.ensures.within, p.put_months-at.auto.out, p.requires.out_len)) (rw p.minutes.ensures at p.put_last-at.ensures)
+-- behind the months' lines, that of the refusal
+module _ (p : After-put_last) where
+  last : Puts p.put_months.new.page (last_line p.args.account.sums.minutes p.args.verdict) p.put_last.new.page
+  last = whole (omega arith) (rw p.minutes.ensures at p.put_last.ensures)
 
-  few : p.put_last-at.result ≤ 2119
-  few = omega (arith, p.put_months-at.ensures.within, last.place, last_within p.args.account.sums.minutes p.args.verdict)
+  few : p.put_last.new.page.at ≤ p.args.page.now.at + 2119
+  few = omega (arith, last.place, last_within p.args.account.sums.minutes p.args.verdict)
 
-pub put_ending-requires : goal.put_ending-requires
-put_ending-requires c =
-    record { kept = c.requires.kept; at_in_bounds = omega (arith, few (goal.at.put_ending-requires c).After-put_last-at, c.put_last-at.auto.out, c.put_months-at.auto.out, c.requires.out_len) }
+pub put_ending-requires-clause-at_in_bounds : goal.put_ending-requires-clause-at_in_bounds
+put_ending-requires-clause-at_in_bounds c =
+    let p = (goal.at.put_ending-requires-clause-at_in_bounds c).After-put_last in omega (arith, few p, (last p).long)
 
 pub returns : goal.returns
 unfolding month_sheet
 returns c =
-    let p = (goal.at.returns c).After-put_last-at in
-    record { value = at_start (onward (onward c.put_months-at.ensures.put_from (last p)) c.put_ending.ensures.put_from); within = omega (arith, c.put_ending.ensures.within, few p) }
+    let p = (goal.at.returns c).After-put_last in
+    record { put_from = onwards (onwards c.put_months.ensures.put_from (last p)) c.put_ending.ensures.put_from; within = omega (arith, few p) }

@@ -32,6 +32,6 @@ overflow_add-tenths c =
 pub returns : goal.returns
 returns c =
     let a = c.args in
-    c.smaller.ensures
+    c.min.ensures
     ∙ ap (λ (z : ℕ). min (a.tenths * (a.fed / 10) + z) a.fed) (c.ceil_div-up.ensures ∙ ap (λ (z : ℕ). ceil_div (a.x / Q * P + z) (2 * a.air)) c.ceil_div-rest.ensures)
     ∙ factor_capped a.x a.air P Q a.fed a.tenths (omega arith) (omega arith)

@@ -4,4 +4,4 @@ use Rattle.records.proofs.head.Goals as goal
 
 pub returns : goal.returns
 unfolding head_lines
-returns c = rw (← chained, c.also-2.ensures, c.also.ensures, c.byte_at-first.ensures, c.u16_at.ensures)
+returns c = rw (← chained, c.also-2.ensures, c.also.ensures, c.at-first.ensures, c.at.ensures)

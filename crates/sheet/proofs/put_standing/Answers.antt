@@ -1,14 +1,11 @@
-use native.Mathlib.Omega.{arith}
-use Rattle.text.proofs.Putting.{onward}
+use Rattle.text.proofs.Putting.{onwards}
 use Rattle.sheet.specs.Sheet.{standing}
 use Rattle.sheet.proofs.put_standing.Goals as goal
 
-pub returns-in-Tonnes : goal.returns-in-Tonnes
+pub returns-in-Ok-clause-put_from : goal.returns-in-Ok-clause-put_from
 unfolding standing
-returns-in-Tonnes c =
-    record { put_from = rw c.in-Tonnes.is (onward c.put_text-at.ensures c.put_decimal.ensures.put_from); within = omega (arith, c.put_text-at.ensures.place, c.put_decimal.ensures.within) }
+returns-in-Ok-clause-put_from c = rw c.in-Ok.is (onwards c.text.ensures c.decimal.ensures.put_from)
 
-pub returns-in-Refused : goal.returns-in-Refused
+pub returns-in-Err-clause-put_from : goal.returns-in-Err-clause-put_from
 unfolding standing
-returns-in-Refused c =
-    record { put_from = rw c.in-Refused.is (c.put_text.ensures); within = omega (arith, c.put_text.ensures.place) }
+returns-in-Err-clause-put_from c = rw c.in-Err.is c.text-in-Err.ensures

@@ -1,9 +1,8 @@
-use native.Mathlib.Omega.{arith}
-use Rattle.text.proofs.Putting.{onward}
+use Rattle.text.proofs.Putting.{onwards}
 use Rattle.sheet.specs.Sheet.{sums_text}
 use Rattle.sheet.proofs.put_sums.Goals as goal
 
-pub returns : goal.returns
+pub returns-clause-put_from : goal.returns-clause-put_from
 unfolding sums_text
-returns c =
-    record { put_from = onward (onward (onward (onward (onward c.put_count-at.ensures.put_from c.put_text-at.ensures) c.put_count-at-2.ensures.put_from) c.put_methane-at.ensures.put_from) c.put_text-at-2.ensures) c.put_decimal.ensures.put_from; within = omega (arith, c.put_count-at.ensures.within, c.put_text-at.ensures.place, c.put_count-at-2.ensures.within, c.put_methane-at.ensures.within, c.put_text-at-2.ensures.place, c.put_decimal.ensures.within) }
+returns-clause-put_from c =
+    onwards (onwards (onwards (onwards (onwards c.put_count.ensures.put_from c.text.ensures) c.put_count-2.ensures.put_from) c.put_methane.ensures.put_from) c.text-2.ensures) c.decimal.ensures.put_from

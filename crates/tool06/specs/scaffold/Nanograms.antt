@@ -1,14 +1,13 @@
 -- The whole nanograms that the code carries, rounded up once.
 -- Nothing here needs to be believed: the code's figures are proved to be those of Figures.antt.
-use Rattle.std.specs.Prelude.{ℕ, ◌+◌, ◌-◌, ◌*◌, ◌/◌, ◌≤◌, min, Bool}
+use Rattle.refusals.specs.declared.refusal.Refusal.{Refusal}
+use Rattle.std.specs.Prelude.{Result, ℕ, ◌+◌, ◌-◌, ◌*◌, ◌/◌, ◌≤◌, min, Bool}
 use Rattle.exact.specs.Rounding.{ceil_div}
 use Rattle.refusals.specs.Tables.{first_of}
 use Rattle.records.specs.House.{answered}
 use Rattle.site.specs.declared.Site.{Site}
 use Rattle.minute.specs.declared.Minute.{Minute}
 use Rattle.tool06.specs.declared.figures.Figures.{Figures}
-use Rattle.tool06.specs.declared.figures.Judged.{Judged}
-use Rattle.tool06.specs.declared.figures.Judged.TheVariants.{Accepted, Refused}
 use Rattle.tool06.specs.declared.loss.Loss.{Loss}
 use Rattle.tool06.specs.declared.loss.Loss.TheVariants.{Share, Measured}
 use Rattle.tool06.specs.Judged.{judged_lines}
@@ -59,5 +58,5 @@ figures_ng s n in_time =
       destroyed = (F_RG_ng n - E) / 1000000;
     }
 
-unfoldable pub judged_ng : Bool → Site → Minute → Bool → Judged
-judged_ng disordered s n in_time = answered Accepted Refused (figures_ng s n in_time) (first_of (judged_lines disordered s n))
+unfoldable pub judged_ng : Bool → Site → Minute → Bool → Result Figures Refusal
+judged_ng disordered s n in_time = answered (figures_ng s n in_time) (first_of (judged_lines disordered s n))

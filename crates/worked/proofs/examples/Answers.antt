@@ -1,14 +1,16 @@
+use Rattle.std.specs.Prelude.{Result}
+use Rattle.tool06.specs.declared.figures.Figures.{Figures}
+use Rattle.refusals.specs.declared.refusal.Refusal.{Refusal}
 use mathlib.Core.Path.{◌≡◌, refl, ap, ◌∙◌}
 use mathlib.Core.List.{List, ◌∷◌}
 use Rattle.site.specs.declared.Site.{Site}
 use Rattle.minute.specs.declared.gas.Gas.{Gas}
 use Rattle.minute.specs.declared.Minute.{Minute}
-use Rattle.tool06.specs.declared.figures.Judged.{Judged}
 use Rattle.worked.specs.declared.Example.{Example}
 use Rattle.worked.specs.Table.{reading, line, table}
 use Rattle.worked.proofs.examples.Goals as goal
 
-row : {x : Example} {s t : Site} {m n : Minute} {a b : Judged} {xs ys : List Example} → x ≡ line s m a → s ≡ t → m ≡ n → a ≡ b → xs ≡ ys → x ∷ xs ≡ line t n b ∷ ys
+row : {x : Example} {s t : Site} {m n : Minute} {a b : Result Figures Refusal} {xs ys : List Example} → x ≡ line s m a → s ≡ t → m ≡ n → a ≡ b → xs ≡ ys → x ∷ xs ≡ line t n b ∷ ys
 row e s m a rest = rw (e, s, m, a, rest)
 
 pub returns : goal.returns

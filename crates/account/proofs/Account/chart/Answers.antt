@@ -1,13 +1,7 @@
 use native.Mathlib.Omega.{arith}
 use Rattle.account.specs.Closing.{chart}
-use Rattle.account.proofs.Within.{sum-within, co2e-within}
+use Rattle.account.proofs.Within.{co2e-within}
 use Rattle.account.proofs.Account.chart.Goals as goal
-
-pub in_tonnes-requires : goal.in_tonnes-requires
-in_tonnes-requires c =
-    let k = c.requires in
-    let h = sum-within k c.args.self.sums.fed k.sums_within.fed_within in
-    omega arith
 
 pub in_tonnes-requires-2 : goal.in_tonnes-requires-2
 in_tonnes-requires-2 c =

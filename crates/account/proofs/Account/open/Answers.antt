@@ -1,4 +1,5 @@
-use mathlib.Core.Path.{◌≡◌}
+use mathlib.Core.Path.{◌≡◌, refl}
+use Rattle.std.proofs.lemmas.Result.{err_from_is_err_and}
 use mir.Syntax.{w16}
 use mir.ValLaws.{to_z-of_z}
 use Rattle.refusals.proofs.Tables.{one_more}
@@ -19,6 +20,12 @@ decided v =
     rw (v.also.ensures, v.verdict.ensures, v.list_wrong-wrong.ensures, to_z-of_z w16 l.result (record { sfits = l.type_inv }), l.ensures)
     (one_more (site_lines a.site) (list_wrong a.list.now (last_day a.site.year)) LIST)
 
+pub returns-in_err-also : goal.returns-in_err-also
+unfolding opened
+returns-in_err-also c =
+    let p = err_from_is_err_and c.from_residual.result c.from_residual.ensures.1 in
+    rw (p.1, p.2, ← decided (goal.at.returns-in_err-also c).After-also, c.in_err-also.was) refl
+
 pub returns : goal.returns
 unfolding opened
-returns c = rw (decided (goal.at.returns c).After-also, c.fresh.ensures)
+returns c = rw (← decided (goal.at.returns c).After-also, c.in_ok-also.was, c.fresh.ensures)

@@ -1,9 +1,5 @@
-use Rattle.std.proofs.Common.{◌-◌}
 use Rattle.account.specs.Kept.{Kept}
 use Rattle.desk_account.proofs.adding.fill_up.Given as goal
 
 abbrev pub invariant-loop-taken : goal.invariant-loop-taken
-invariant-loop-taken l = Kept l.current
-
-abbrev pub decreases-loop-taken : goal.decreases-loop-taken
-decreases-loop-taken l = l.count - l.taken
+invariant-loop-taken l = Kept l.account

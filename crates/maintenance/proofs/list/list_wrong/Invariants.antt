@@ -1,4 +1,4 @@
-use Prim.Native.Nat.{◌-◌, ◌≤◌}
+use Prim.Native.Nat.{◌≤◌}
 use mathlib.Core.Path.{◌≡◌}
 use mathlib.Core.Bool.{true, ◌&&◌}
 use lib.ListN.{length, drop}
@@ -8,9 +8,6 @@ use Rattle.maintenance.specs.Days.{rising_from, rising, within}
 use Rattle.maintenance.proofs.list.list_wrong.Given as goal
 
 -- the days that are left decide, and the one before them is at least the day before the first allowed
-abbrev pub invariant-loop-i : goal.invariant-loop-i
-invariant-loop-i l =
-    (l.i ≤ length l.list) × (length l.list ≤ 64) × (le_z (minus 3661) l.before ≡ true) × ((rising l.list && within (minus 3660) l.last l.list) ≡ (rising_from l.before (drop l.i l.list) && within (minus 3660) l.last (drop l.i l.list)))
-
-abbrev pub decreases-loop-i : goal.decreases-loop-i
-decreases-loop-i l = length l.list - l.i
+abbrev pub invariant-loop-day : goal.invariant-loop-day
+invariant-loop-day l =
+    (length l.list ≤ 64) × (le_z (minus 3661) l.before ≡ true) × ((rising l.list && within (minus 3660) l.last l.list) ≡ (rising_from l.before (drop l.day-index l.list) && within (minus 3660) l.last (drop l.day-index l.list)))

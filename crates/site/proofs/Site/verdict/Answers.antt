@@ -1,9 +1,16 @@
 use mathlib.Core.Path.{◌≡◌, sym, ◌∙◌}
 use lib.ListN.{drop}
 use Rattle.refusals.specs.Tables.{first_of}
-use Rattle.site.specs.Rules.{site_lines}
+use Rattle.site.specs.Rules.{temperatures_wrong, flows_wrong, site_lines}
+use Rattle.site.proofs.Bounded.{temperatures, flows}
 use Rattle.site.proofs.Site.verdict.Goals as goal
-use Rattle.site.proofs.Site.verdict.Goals.{Else-measured-is_open, Else-not-self-measured, Else-self, Else-self-2, Else-self-3, Else-self-measured, Else-wrong}
+use Rattle.site.proofs.Site.verdict.Goals.{After-wrong-2, Else-measured-is_open, Else-not-self-measured, Else-self, Else-self-2, Else-self-3, Else-self-measured, Else-wrong}
+
+temperatures_are : (v : After-wrong-2) → v.wrong.result ≡ temperatures_wrong v.args.self.temperature
+temperatures_are v = v.wrong.ensures ∙ temperatures v.args.self.temperature
+
+flows_are : (v : After-wrong-2) → v.wrong-2.result ≡ flows_wrong v.args.self.flow
+flows_are v = v.wrong-2.ensures ∙ flows v.args.self.flow
 
 -- past k tests that were not met, the rest of the table decides
 past-1 : (c : Else-not-self-measured) → let s = c.args.self in first_of (site_lines s) ≡ first_of (drop 1 (site_lines s))
@@ -24,7 +31,7 @@ past-4 c = past-3 c.before.before.before.before ∙ rw c.if-self-3.false
 
 past-5 : (c : Else-wrong) → let s = c.args.self in first_of (site_lines s) ≡ first_of (drop 5 (site_lines s))
 unfolding site_lines
-past-5 c = past-4 c.before.before.before ∙ rw (← c.wrong-2.ensures, ← c.wrong.ensures, c.if-wrong.false)
+past-5 c = past-4 c.before.before.before ∙ rw (← flows_are c.before, ← temperatures_are c.before, c.if-wrong.false)
 
 past-6 : (c : Else-measured-is_open) → let s = c.args.self in first_of (site_lines s) ≡ first_of (drop 6 (site_lines s))
 unfolding site_lines
@@ -52,7 +59,7 @@ returns-then-self-3 c = sym (past-3 c.before.before.before.before ∙ rw c.if-se
 
 pub returns-then-wrong : goal.returns-then-wrong
 unfolding site_lines
-returns-then-wrong c = sym (past-4 c.before.before.before ∙ rw (← c.wrong-2.ensures, ← c.wrong.ensures, c.if-wrong.true))
+returns-then-wrong c = sym (past-4 c.before.before.before ∙ rw (← flows_are (goal.at.returns-then-wrong c).After-wrong-2, ← temperatures_are (goal.at.returns-then-wrong c).After-wrong-2, c.if-wrong.true))
 
 pub returns-then-measured-is_open : goal.returns-then-measured-is_open
 unfolding site_lines

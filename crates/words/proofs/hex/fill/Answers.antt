@@ -2,30 +2,15 @@ use native.Mathlib.Omega.{arith}
 use Rattle.words.proofs.Filling.{next, one_less, none_left}
 use Rattle.words.proofs.hex.fill.Goals as goal
 
-pub bounds-word-i-in-loop-i : goal.bounds-word-i-in-loop-i
-bounds-word-i-in-loop-i c =
-    let t = c.before.before.before in
-    (next t.loop-i.invariant t.loop-i-test.true).both
+pub digit_of-high-requires : goal.digit_of-high-requires
+digit_of-high-requires c = (next c.loop-k.invariant (omega arith)).high
 
-pub overflow_mul-high : goal.overflow_mul-high
-overflow_mul-high c =
-    let t = c.before.before.before.before.before in
-    let p = next t.loop-i.invariant t.loop-i-test.true in
-    omega arith
+pub digit_of-low-requires : goal.digit_of-low-requires
+digit_of-low-requires c = (next c.loop-k.invariant (omega arith)).low
 
-pub overflow_add-high : goal.overflow_add-high
-overflow_add-high c =
-    let t = c.before.before.before.before.before in
-    let p = next t.loop-i.invariant t.loop-i-test.true in
-    omega arith
-
-pub loop-i-preserved : goal.loop-i-preserved
-loop-i-preserved c =
-    let p = c.before.before in
-    let y = p.before.before in
-    let x = y.before.before in
-    let t = x.before.before in
-    one_less t.loop-i.invariant t.loop-i-test.true x.digit_of-high.ensures y.digit_of-low.ensures p.put_byte.ensures
+pub loop-k-preserved : goal.loop-k-preserved
+loop-k-preserved c =
+    one_less c.loop-k.invariant (omega arith) c.digit_of-high.ensures.value c.digit_of-low.ensures.value c.put.ensures (omega arith)
 
 pub returns : goal.returns
-returns c = none_left c.loop-i.invariant c.loop-i-test.false
+returns c = none_left c.loop-k.invariant (omega arith)

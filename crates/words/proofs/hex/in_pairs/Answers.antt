@@ -1,24 +1,10 @@
 use mathlib.Core.Path.{sym, ◌∙◌}
-use native.Mathlib.Omega.{arith}
-use Rattle.words.proofs.Pairs.{pairs_one, pairs_more, pairs_end}
+use borrow.Author.Tests.{ne_eqb}
+use Rattle.words.proofs.Pairs.{even, odd}
 use Rattle.words.proofs.hex.in_pairs.Goals as goal
 
-pub returns-then-word-i-lt2 : goal.returns-then-word-i-lt2
-returns-then-word-i-lt2 c = let l = c.loop-i in sym (pairs_one _ l.i (omega arith)) ∙ l.invariant
+pub returns-then-word-eq0 : goal.returns-then-word-eq0
+returns-then-word-eq0 c = c.are_hex.ensures ∙ sym (even _ c.if-word-eq0.true)
 
-pub returns-then-not-is_hex : goal.returns-then-not-is_hex
-returns-then-not-is_hex c =
-    let y = c.before in
-    let x = y.before.before in
-    let l = x.loop-i in
-    sym (pairs_more _ l.i (omega arith) x.is_hex.ensures y.is_hex-in-loop-i.ensures c.if-not-is_hex.true) ∙ l.invariant
-
-pub loop-i-preserved : goal.loop-i-preserved
-loop-i-preserved c =
-    let y = c.before in
-    let x = y.before.before in
-    let l = x.loop-i in
-    sym (pairs_more _ l.i (omega arith) x.is_hex.ensures y.is_hex-in-loop-i.ensures c.if-not-is_hex.false) ∙ l.invariant
-
-pub returns : goal.returns
-returns c = let l = c.loop-i in sym (pairs_end _ l.i c.loop-i-test.false) ∙ l.invariant
+pub returns-else-word-eq0 : goal.returns-else-word-eq0
+returns-else-word-eq0 c = ne_eqb _ _ c.if-word-eq0.false ∙ odd _ c.if-word-eq0.false

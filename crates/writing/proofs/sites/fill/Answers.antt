@@ -8,13 +8,13 @@ unfolding site_bytes
 returns c =
     let s = c.args.site in
     rw (
-      c.put_u16-3.ensures,
+      c.put-6.ensures,
       c.fill_limits.ensures,
-      c.put_u32-2.ensures,
-      c.put_u32.ensures,
-      c.put_u16-2.ensures,
-      c.put_u16.ensures,
-      c.put_byte.ensures,
+      c.put-5.ensures,
+      c.put-4.ensures,
+      c.put-3.ensures,
+      c.put-2.ensures,
+      c.put.ensures,
       c.put_head.ensures,
     )
     (filled_record site_form s c.args.out.now refl c.requires)

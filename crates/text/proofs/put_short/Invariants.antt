@@ -1,8 +1,0 @@
-use Rattle.text.proofs.Filling.{Left}
-use Rattle.text.proofs.put_short.Given as goal
-
-abbrev pub invariant-loop-left : goal.invariant-loop-left
-invariant-loop-left l = Left l.initial.out l.at l.n l.out l.left l.rest
-
-abbrev pub decreases-loop-left : goal.decreases-loop-left
-decreases-loop-left l = l.left
