@@ -56,13 +56,10 @@ pub(crate) fn read_more(
     input: &mut impl Read,
     chunk: &mut [u8],
 ) -> Result<usize, Failed> {
-    match input.read(chunk) {
-        Ok(count) => Ok(count),
-        Err(_) => {
-            notes::unread(rt);
-            Err(Failed)
-        }
-    }
+    input.read(chunk).map_err(|_| {
+        notes::unread(rt);
+        Failed
+    })
 }
 
 // Prints the answers, or says that it could not.
@@ -73,13 +70,10 @@ fn print(rt: &(impl Print + Eprint), out: &mut Answers) -> Result<(), Failed> {
         notes::unwritten(rt);
         return Err(Failed);
     };
-    match rt.write_all(waiting) {
-        Ok(()) => Ok(()),
-        Err(error) => {
-            notes::unprinted(rt, error);
-            Err(Failed)
-        }
-    }
+    rt.write_all(waiting).map_err(|error| {
+        notes::unprinted(rt, error);
+        Failed
+    })
 }
 
 impl<'a> Talk<'a> {

@@ -1,4 +1,6 @@
 // The call `open`, with the days that its line lists.
+ghost use Rattle.std.specs.Prelude.{IfOk};
+ghost use Rattle.account.specs.Kept.{Kept};
 ghost use Rattle.desk_account.specs.Desk.{Ready};
 
 use account::Account;
@@ -7,11 +9,12 @@ use forms::call::{DAY, Form};
 use forms::expected;
 use forms::take::Misfit;
 use forms::word::next_word;
-use site::Site;
+use refusals::Refusal;
 
 // One day more than may be listed: a list of more is refused whatever they are, so its first 65 stand for it.
 const DAYS: usize = 65;
 
+// An array with its length: nothing here has the heap.
 #[derive(Clone, Copy)]
 struct Days {
     days: [i16; DAYS],
@@ -54,25 +57,24 @@ fn list_in(rest: &[u8]) -> Result<Days, Misfit> {
     }
 }
 
-fn with_site(desk: &mut Option<Account>, site: Site, days: &[i16], out: &mut Answers)
-    requires { Ready desk.old }
-    ensures { Ready desk.new }
+// An account of the site in this record, or why it is refused.
+#[tactic(auto, using(account::proofs::Laws::opened_kept))]
+fn opened(record: &[u8], days: &[i16]) -> Result<Account, Refusal>
+    ensures { IfOk result (λ account. Kept account) }
 {
-    match Account::open(site, days) {
-        Ok(account) => {
-            *desk = Some(account);
-            out.text(b"opened\n");
-        }
-        Err(refusal) => out.refused(refusal),
-    }
+    let site = reading::read_site(record)?;
+    Account::open(site, days)
 }
 
 fn with_list(desk: &mut Option<Account>, record: &[u8], days: &[i16], out: &mut Answers)
     requires { Ready desk.old }
     ensures { Ready desk.new }
 {
-    match reading::read_site(record) {
-        Ok(site) => with_site(desk, site, days, out),
+    match opened(record, days) {
+        Ok(account) => {
+            *desk = Some(account);
+            out.text(b"opened\n");
+        }
         Err(refusal) => out.refused(refusal),
     }
 }

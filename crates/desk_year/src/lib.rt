@@ -32,9 +32,9 @@ pub fn close(account: Account, out: &mut Answers)
     }
 }
 
-// What is no number is unlike itself; a chart point never is one.
+// Of what is no number, 0; a chart point never is that.
 fn bits_of(x: f64) -> u64 {
-    if x == x { x.to_bits() } else { 0 }
+    if x.is_nan() { 0 } else { x.to_bits() }
 }
 
 pub fn chart(account: Account, out: &mut Answers)

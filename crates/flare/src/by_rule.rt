@@ -24,7 +24,7 @@ fn print_rule(
     print(rt, &page)
 }
 
-// Nothing follows what could not be printed.
+// Nothing follows what could not be printed. Calls and no table, which would have to prove each row's rule below rule_count.
 pub(crate) fn print_rules(
     rt: &(impl Print + Eprint),
     counts: [u32; Figures::RULES],

@@ -51,6 +51,7 @@ fn put_refused(page: &mut Page, minute: u32, refusal: Refusal)
     page.text(b"\n");
 }
 
+// The test for room stands at each line, as a contract is not seen through a closure that puts it.
 // A minute's line: its figures, or its refusal. Without room for any line nothing is put, and the place stays.
 pub fn put_minute(page: &mut Page, minute: u32, answer: Result<Figures, Refusal>)
     ensures { PutsLine page.old (minute_line minute answer) page.new }

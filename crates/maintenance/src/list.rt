@@ -3,7 +3,7 @@ ghost use Rattle.std.specs.Prelude.{◌≡◌, ◌||◌};
 ghost use Rattle.std.specs.Int.Signed.{lt_z, le_z};
 ghost use Rattle.maintenance.specs.Days.{list_wrong, maintenance_of};
 
-// The days are the first `listed` places.
+// The days are the first `listed` places: an array with its length, since nothing here has the heap.
 #[derive(Clone, Copy)]
 pub struct Maintenance {
     pub days: [i16; Maintenance::MOST],

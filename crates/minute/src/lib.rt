@@ -58,7 +58,7 @@ impl Minute {
 
     pub const MOST_METHANE: u32 = 50_000;
 
-    // Whether a flag is on: FLAME, TEMPERATURE or EXHAUST.
+    // Whether a flag is on: FLAME, TEMPERATURE or EXHAUST. A number and no enum: it is promised for every one.
     pub fn has(self, flag: u8) -> bool
         ensures { result ≡ is_on flag self }
     {
@@ -73,7 +73,7 @@ impl Minute {
     {
         let present = self.has(Minute::TEMPERATURE);
         (present & ((self.temperature < Minute::COLDEST) | (Minute::HOTTEST < self.temperature)))
-            | (!present & ((self.temperature < 0) | (0 < self.temperature)))
+            | (!present & (self.temperature != 0))
     }
 
     fn exhaust_wrong(self) -> bool

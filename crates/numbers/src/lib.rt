@@ -137,7 +137,7 @@ impl Number for i16 {
     }
 }
 
-// Two's complement: the signed number that two bytes hold, and its two bytes.
+// Two's complement: the signed number that two bytes hold, and its two bytes. Calls of their own, which their contracts define.
 pub fn signed(x: u16) -> i16
     ensures { result ≡ signed x }
 {

@@ -5,7 +5,7 @@ ghost use Rattle.site.specs.Record.{site_of, read_site};
 use refusals::Refusal;
 use site::{Flows, Site, Temperatures};
 
-// The fields, or the first of the refusals 1 to 9.
+// The fields, or the first of the refusals 1 to 9. Beside read_minute: one function for both would take a trait with the form and its laws.
 pub fn read_site(bytes: &[u8]) -> Result<Site, Refusal>
     ensures { result ≡ read_site bytes.now }
 {

@@ -30,7 +30,7 @@ pub enum Refusal {
 }
 
 impl Refusal {
-    // Its number.
+    // Its number, written out as the rules have it.
     pub fn number(self) -> u8
         ensures { result ≡ number_of self }
     {

@@ -105,7 +105,7 @@ impl Site {
         }
     }
 
-    // The first of the refusals 3 to 9 of the fields.
+    // The first of the refusals 3 to 9 of the fields. Each test returns: through also the refusal's number is worked out even where there is none.
     pub fn verdict(self) -> Result<(), Refusal>
         ensures { result ≡ first_of (site_lines self) }
     {

@@ -9,7 +9,7 @@ pub struct Figures {
 }
 
 impl Figures {
-    // The rules' numbers.
+    // The rules' numbers, and no enum: a line and a count are promised for any number.
     pub const NO_GAS: u8 = 0;
 
     pub const NO_FLAME: u8 = 1;

@@ -50,6 +50,7 @@ fn fill(word: &[u8], out: &mut [u8])
     }
 }
 
+// A Bool and no Option: what it says of the word stands in its contract.
 // Puts the bytes that the word spells into out from its start on, as far as it goes, where the word is digits, two and two; else nothing. Answers which: of the empty word true, as it spells no bytes.
 pub fn put_bytes(word: &[u8], out: &mut [u8]) -> bool
     ensures { (result ≡ in_pairs word.now) × (out.new ≡ cond (in_pairs word.now) (put out.old 0 (bytes_in word.now)) out.old) }
