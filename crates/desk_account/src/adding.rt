@@ -2,7 +2,7 @@
 ghost use Rattle.account.specs.Kept.{Kept};
 ghost use Rattle.desk_account.specs.Desk.{Ready};
 
-use crate::turn::no_account;
+use crate::no_account;
 use account::Account;
 use answers::Answers;
 use refusals::Refusal;

@@ -3,4 +3,10 @@
 
 pub mod adding;
 pub mod opening;
-pub mod turn;
+
+use answers::Answers;
+
+// The answer where no account is open and a call takes one.
+pub fn no_account(out: &mut Answers) {
+    out.text(b"no account\n");
+}
