@@ -41,11 +41,15 @@ impl Answers<'_> {
         }
     }
 
-    // Bytes in hexadecimal.
+    // Bytes in hexadecimal, as many as there is room for.
     pub fn hex(&mut self, bytes: &[u8]) {
-        for byte in bytes {
-            self.text(&pair_of(*byte));
+        let at = self.page.at;
+        let free = self.page.buffer.get_mut(at..).unwrap_or(&mut []);
+        let count = bytes.len().min(free.len() / 2);
+        for (pair, byte) in free.chunks_exact_mut(2).zip(bytes) {
+            pair.copy_from_slice(&pair_of(*byte));
         }
+        self.page.at = at + 2 * count;
     }
 
     // A number in hexadecimal, all its sixteen digits.

@@ -8,7 +8,7 @@ use answers::Answers;
 use desk_account::{adding, no_account, opening};
 use desk_records::of_records;
 use forms::call::{Call, Form, Question};
-use forms::take::{Given, Misfit, take};
+use forms::take::{Given, Misfit, first_mut, take};
 
 fn answer_to(question: Question, account: Account, given: &Given, out: &mut Answers)
     requires { Kept account }
@@ -43,14 +43,15 @@ pub(crate) fn act(
     requires { Ready desk.old }
     ensures { Ready desk.new }
 {
-    let (mut given, rest) = take(form.words, line, bytes)?;
+    let (numbers, rest) = take(form.words, line, bytes).map_err(|(misfit, _)| misfit)?;
     if form.call != Call::Open && !rest.is_empty() {
         return Err(Misfit::Form);
     }
+    let given = Given { numbers, bytes };
     match form.call {
         Call::Open => opening::open(desk, form, given.bytes(0), rest, out),
         Call::Add => adding::add(desk, given.bytes(0), out),
-        Call::Fill => adding::fill(desk, given.number(0), given.bytes_mut(1), out),
+        Call::Fill => adding::fill(desk, numbers[0], first_mut(bytes, numbers[1]), out),
         Call::Single => desk_single::single(&given, out),
         Call::Record(call) => of_records(call, &given, out),
         Call::Ask(question) => ask(question, *desk, &given, out),

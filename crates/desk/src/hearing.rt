@@ -4,6 +4,7 @@ ghost use Rattle.desk_account.specs.Desk.{Ready};
 use crate::answer::answer;
 use account::Account;
 use answers::Answers;
+use memchr::memchr;
 use std::io::Read;
 use text::Page;
 
@@ -124,10 +125,11 @@ impl<'a> Talk<'a> {
         ensures { Ready self.new.desk }
     {
         let mut rest = chunk;
-        while let Some(end) = rest.iter().position(|byte| *byte == b'\n') {
+        while let Some(end) = memchr(b'\n', rest) {
             self.line.keep(&rest[..end]);
             self.end_line(rt)?;
-            rest = &rest[end + 1..];
+            // In two steps, as nothing says that one more than the end fits its type.
+            rest = &rest[end..][1..];
         }
         self.line.keep(rest);
         print(rt, &mut self.out)

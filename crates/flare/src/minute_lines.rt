@@ -1,5 +1,5 @@
 // The lines of the minutes, and the last lines: the total and the year, before which a summary has the minutes under each rule.
-ghost use Rattle.std.specs.Prelude.{◌+◌, ◌≤◌, length};
+ghost use Rattle.std.specs.Prelude.{◌≡◌, ◌+◌, ◌≤◌, length};
 ghost use Rattle.account.specs.Kept.{Kept};
 ghost use Rattle.ending.specs.Ending.{ending};
 ghost use Rattle.text.specs.Places.{Puts};
@@ -18,9 +18,10 @@ pub(crate) struct Lines {
     pub(crate) summary: bool,
 }
 
-// The total and the year.
+// The total and the year, on a page that has nothing yet.
 fn finish(rt: &(impl Print + Eprint), account: Account, page: &mut Page) -> Result<(), Stopped>
     requires kept { Kept account }
+    requires start { page.old.at ≡ 0 }
     requires room { page.old.at + 326 ≤ length page.old.buffer.now }
     ensures { Puts page.old (ending account) page.new }
 {

@@ -42,7 +42,7 @@ pub struct Form {
     pub call: Call,
     pub name: &'static str,
     pub words: &'static [Word],
-    list: &'static str,
+    pub list: &'static str,
 }
 
 impl fmt::Display for Form {

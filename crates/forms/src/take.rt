@@ -1,10 +1,10 @@
 // Taking the words of a call from its line.
-ghost use Rattle.std.specs.Prelude.{◌≤◌, length, IfOk};
+ghost use Rattle.std.specs.Prelude.{◌≡◌, ◌≤◌, length, min, IfOk, IfErr};
 
 use crate::word::{Kind, Word, next_word};
 
 // Where the bytes of a second record stand.
-const SECOND_AT: usize = 160_000;
+pub const SECOND_AT: usize = 160_000;
 
 // How the words are not as the call's form has them: one is missing or left over, or one is not of its kind.
 #[derive(Clone, Copy, PartialEq, Eq, Debug)]
@@ -13,11 +13,11 @@ pub enum Misfit {
     Wrong(Word),
 }
 
-// What a line gives to its call: a number for each of its words, in two's complement where it has a sign, and for bytes how many there are; and the bytes that they spell. No call has more words; of more, the first so many are taken.
-#[derive(Drop)]
+// What a line gives to its call: a number for each of its words, in two's complement where it has a sign, and for bytes how many there are; and the bytes that they spell. No call has more words; of more, the first so many are kept.
+#[derive(Clone, Copy)]
 pub struct Given<'b> {
-    numbers: [u32; 15],
-    bytes: &'b mut [u8],
+    pub numbers: [u32; 15],
+    pub bytes: &'b [u8],
 }
 
 impl Given<'_> {
@@ -39,19 +39,30 @@ impl Given<'_> {
 
     // The bytes of the word at a place.
     pub fn bytes(&self, place: usize) -> &[u8] {
-        self.bytes.get(..self.count(place)).unwrap_or(&[])
-    }
-
-    pub fn bytes_mut(&mut self, place: usize) -> &mut [u8] {
-        let count = self.count(place).min(self.bytes.len());
-        &mut self.bytes[..count]
+        let bytes = self.bytes;
+        match bytes.get(..self.count(place)) {
+            Some(word) => word,
+            None => &[],
+        }
     }
 
     // The bytes of the word at a place, where they are a second record's.
     pub fn second(&self, place: usize) -> &[u8] {
         let end = SECOND_AT.saturating_add(self.count(place));
-        self.bytes.get(SECOND_AT..end).unwrap_or(&[])
+        let bytes = self.bytes;
+        match bytes.get(SECOND_AT..end) {
+            Some(word) => word,
+            None => &[],
+        }
     }
+}
+
+// The first so many bytes, or all where there are no more, to be written too.
+pub fn first_mut(bytes: &mut [u8], count: u32) -> &mut [u8]
+    ensures { length result.now ≡ min count (length bytes.old) }
+{
+    let count = (count as usize).min(bytes.len());
+    &mut bytes[..count]
 }
 
 // The bytes that a word spells, put from a place on.
@@ -74,20 +85,24 @@ fn number_of(word: &[u8], kind: Kind, bytes: &mut [u8]) -> Option<u32> {
     }
 }
 
-// Takes these words in turn from what is left of a line behind its name, and answers what is left behind them.
-pub fn take<'l, 'b>(
+// Takes these words in turn from what is left of a line behind its name: the numbers that they give, the bytes that they spell, which are put, and what is left behind them, or behind the one that does not fit.
+pub fn take<'l>(
     words: &[Word],
     line: &'l [u8],
-    bytes: &'b mut [u8],
-) -> Result<(Given<'b>, &'l [u8]), Misfit>
-    ensures { IfOk result (λ taken. length taken.1.now ≤ length line.now) }
+    bytes: &mut [u8],
+) -> Result<([u32; 15], &'l [u8]), (Misfit, &'l [u8])>
+    ensures taken { IfOk result (λ taken. length taken.1.now ≤ length line.now) }
+    ensures misfit { IfErr result (λ wrong. length wrong.1.now ≤ length line.now) }
 {
     let mut numbers = [0; 15];
     let mut rest = line;
-    for (number, word) in numbers.iter_mut().zip(words) {
-        let (text, left) = next_word(rest).ok_or(Misfit::Form)?;
-        *number = number_of(text, word.1, bytes).ok_or(Misfit::Wrong(*word))?;
+    for (place, word) in words.iter().enumerate() {
+        let (text, left) = next_word(rest).ok_or((Misfit::Form, rest))?;
         rest = left;
+        let number = number_of(text, word.1, bytes).ok_or((Misfit::Wrong(*word), rest))?;
+        if place < numbers.len() {
+            numbers[place] = number;
+        }
     }
-    Ok((Given { numbers, bytes }, rest))
+    Ok((numbers, rest))
 }

@@ -1,7 +1,7 @@
 // Reads a site record and then minutes from standard input, and prints the sums of each month, the total and the year.
 #![tactic(auto)]
 
-ghost use Rattle.std.specs.Prelude.{◌+◌, ◌≤◌, length};
+ghost use Rattle.std.specs.Prelude.{◌≡◌, ◌+◌, ◌≤◌, length};
 ghost use Rattle.account.specs.Kept.{Kept};
 ghost use Rattle.monthly.specs.Monthly.{month_sheet};
 ghost use Rattle.text.specs.Places.{Puts};
@@ -13,7 +13,7 @@ use program::{OUT, Output, Stopped, print, read, tell};
 use refusals::Refusal;
 use text::Page;
 
-// All that is printed, once no record follows.
+// All that is printed, once no record follows, on a page that has nothing yet.
 fn finish(
     rt: &(impl Print + Eprint),
     account: Account,
@@ -21,6 +21,7 @@ fn finish(
     page: &mut Page,
 ) -> Result<(), Stopped>
     requires kept { Kept account }
+    requires start { page.old.at ≡ 0 }
     requires room { page.old.at + 2445 ≤ length page.old.buffer.now }
     ensures { Puts page.old (month_sheet account verdict) page.new }
 {

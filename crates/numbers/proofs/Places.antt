@@ -82,6 +82,12 @@ front_copied b xs n e =
     ap₂ ◌++◌ (ap (λ (j : ℕ). take j xs) e ∙ take_min (length b) xs) (ap (λ (j : ℕ). drop j b) f ∙ drop_min (length xs) b)
     ∙ front_put b xs
 
+-- all of xs, where there is room, and what it leaves of b
+pub whole_put : (b xs : List ℕ) (n : ℕ) → length xs ≡ n → n ≤ length b → xs ++ drop n b ≡ put b 0 xs
+whole_put b xs n e h =
+    let whole : take (length b) xs ≡ xs = take_all (length b) xs (omega arith) in
+    rw (← e) (rw whole at (front_put b xs))
+
 -- the first cells of b where it has as many
 pub first_cells : (n : ℕ) (b : List ℕ) → n ≤ length b → take n b ≡ cells n b 0
 first_cells zero b h = refl

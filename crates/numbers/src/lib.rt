@@ -45,6 +45,17 @@ fn put_front(b: &mut [u8], bytes: &[u8])
     b[..n].copy_from_slice(&bytes[..n]);
 }
 
+// Puts a number's bytes first, as far as b goes. Where there is room for all, they are stored as one.
+fn put_whole<const N: usize>(b: &mut [u8], bytes: [u8; N])
+    ensures { b.new ≡ put b.old 0 bytes.entry }
+{
+    if let Some(whole) = b.first_chunk_mut() {
+        *whole = bytes;
+    } else {
+        put_front(b, &bytes);
+    }
+}
+
 // The first bytes of b, with 0 for those past its end. Where all are there, they are loaded as one.
 fn front<const N: usize>(b: &[u8]) -> [u8; N]
     ensures { result ≡ cells N b.now 0 }
@@ -69,7 +80,7 @@ impl Number for u8 {
     }
 
     fn put_first(self, b: &mut [u8]) {
-        put_front(b, &u8::to_be_bytes(self));
+        put_whole(b, u8::to_be_bytes(self));
     }
 }
 
@@ -85,7 +96,7 @@ impl Number for u16 {
     }
 
     fn put_first(self, b: &mut [u8]) {
-        put_front(b, &u16::to_be_bytes(self));
+        put_whole(b, u16::to_be_bytes(self));
     }
 }
 
@@ -101,7 +112,7 @@ impl Number for u32 {
     }
 
     fn put_first(self, b: &mut [u8]) {
-        put_front(b, &u32::to_be_bytes(self));
+        put_whole(b, u32::to_be_bytes(self));
     }
 }
 
@@ -117,7 +128,7 @@ impl Number for u64 {
     }
 
     fn put_first(self, b: &mut [u8]) {
-        put_front(b, &u64::to_be_bytes(self));
+        put_whole(b, u64::to_be_bytes(self));
     }
 }
 

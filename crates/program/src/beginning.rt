@@ -9,22 +9,22 @@ ghost use Rattle.text.specs.Places.{Puts};
 
 use crate::ended::Stopped;
 use crate::minutes::OUT;
-use crate::streams::{fill, print, unread};
+use crate::streams::{Broken, fill, print, unread};
 use account::Account;
 use ending::put_refused_site;
 use refusals::Refusal;
 use site::Site;
-use std::io;
 use std::io::{IsTerminal, Read};
 use text::Page;
 
-// All that is printed of a site that is refused.
+// All that is printed of a site that is refused, on a page that has nothing yet.
 fn print_refused(
     rt: &(impl Print + Eprint),
     refusal: Refusal,
     page: &mut Page,
 ) -> Result<(), Stopped>
-    requires { page.old.at + 163 ≤ length page.old.buffer.now }
+    requires start { page.old.at ≡ 0 }
+    requires room { page.old.at + 163 ≤ length page.old.buffer.now }
     ensures { Puts page.old (site_line refusal) page.new }
 {
     put_refused_site(page, refusal);
@@ -69,7 +69,7 @@ fn open(bytes: &[u8]) -> Result<Account, Refusal>
 fn receive(
     rt: &(impl Print + Eprint),
     stderr: &impl IsTerminal,
-    read: io::Result<usize>,
+    read: Result<usize, Broken>,
     buffer: &[u8],
     out: &mut [u8; OUT],
 ) -> Result<Account, Stopped>

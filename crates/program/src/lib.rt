@@ -9,4 +9,4 @@ mod streams;
 pub use beginning::begin;
 pub use ended::{Ended, Stopped, conclude, tell};
 pub use minutes::{OUT, Output, read, run};
-pub use streams::{fill, print};
+pub use streams::{Broken, fill, print, print_used};

@@ -9,5 +9,12 @@ use text::Page;
 pub fn room(page: &Page) -> usize
     ensures { result ≡ length page.now.buffer.now - page.now.at }
 {
-    page.buffer.len().saturating_sub(page.at)
+    room_from(page.buffer, page.at)
+}
+
+// The same of any buffer and any place.
+pub fn room_from(buffer: &[u8], at: usize) -> usize
+    ensures { result ≡ length buffer.now - at }
+{
+    buffer.len().saturating_sub(at)
 }
